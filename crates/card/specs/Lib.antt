@@ -1,0 +1,10 @@
+pub mod Source
+pub mod Bits
+pub mod Words
+pub mod Faults
+pub mod Withdrawing
+pub mod Meaning
+pub mod Model
+pub mod Laws
+pub mod Runs
+pub mod Edges

@@ -1,0 +1,31 @@
+ghost use mathlib.Core.Path.{_≡_};
+ghost use Rattle.card.specs.Withdrawing.{nobody, has, first-word};
+
+/// The sources whose held edge a call withdrew. Only this file knows how they are stored.
+#[derive(Clone, Copy, PartialEq, Eq, Debug)]
+pub struct Withdrawn {
+    bits: u64,
+}
+
+impl Withdrawn {
+    /// No source.
+    pub fn none() -> Withdrawn
+        ensures { λ r. ⌜ r ≡ nobody ⌝ }
+    {
+        Withdrawn { bits: 0 }
+    }
+
+    /// Whether a source is among them.
+    pub fn contains(self, source: u8) -> bool
+        ensures { λ r. ⌜ r ≡ has self source ⌝ }
+    {
+        source < 64 && self.bits >> source & 1 == 1
+    }
+
+    /// Sources 0 to 63 as a number: bit s is source s.
+    pub fn first_word(self) -> u64
+        ensures { λ r. ⌜ r ≡ first-word self ⌝ }
+    {
+        self.bits
+    }
+}
