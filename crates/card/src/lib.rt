@@ -21,3 +21,19 @@ pub use outcomes::Answer;
 pub use outcomes::Driven;
 pub use outcomes::Reply;
 pub use withdrawn::Withdrawn;
+
+// The comparisons and the debug output of these types, for tests.
+pub use faults::CardFaultDebug;
+pub use faults::CardFaultPartialEq;
+pub use faults::LayerDebug;
+pub use faults::LayerPartialEq;
+pub use faults::RefusalDebug;
+pub use faults::RefusalPartialEq;
+pub use outcomes::AnswerDebug;
+pub use outcomes::AnswerPartialEq;
+pub use outcomes::DrivenDebug;
+pub use outcomes::DrivenPartialEq;
+pub use outcomes::ReplyDebug;
+pub use outcomes::ReplyPartialEq;
+pub use withdrawn::WithdrawnDebug;
+pub use withdrawn::WithdrawnPartialEq;

@@ -1,0 +1,5 @@
+mod Pages
+mod Cuts
+mod Readings
+mod Shows
+mod Lines

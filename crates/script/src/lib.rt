@@ -1,0 +1,17 @@
+// Scripts: lines in, lines out. A line makes one call of a card; what is printed of it is its number and the result.
+
+mod cutting;
+mod faults;
+mod page;
+mod parsing;
+mod printing;
+mod running;
+mod words;
+
+pub use faults::ScriptFault;
+pub use parsing::parse;
+pub use running::line;
+pub use running::obey;
+pub use running::run_script;
+pub use words::Call;
+pub use words::Outcome;
