@@ -22,7 +22,7 @@ use Rattle.card.specs.Runs.{Turn, turn-of, turns, end-of, one, count-of}
 use Rattle.card.specs.declared.calls.CardCall.{CardCall}
 use Rattle.card.specs.Edges.{gives, leaves, is-latched, latch, tells, names, by-source, latched-in, answered-in, withdrawn-in, holds, EdgesKept}
 use Rattle.card.proofs.Picks.{pick-chosen, chosen-by}
-use Rattle.card.proofs.Bitwise.{has-told}
+use Rattle.card.proofs.Withdrawals.{has-told}
 
 -- any run: what each turn balances, the run does
 pub balance-run : {S C R : Type 0} (give : S → C → R) (next : S → C → S) (hold : S → ℕ) (gain one-loss other-loss : Turn S C R → Bool)

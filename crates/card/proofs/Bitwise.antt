@@ -12,8 +12,6 @@ use Rattle.std.proofs.shelf.Tests.{cases-lt, both-ways, ltb-true, ltb-false}
 use Rattle.std.proofs.shelf.Bits.{pow-pos, pow-add, shr-high, mod-low, field-of, mul-le, one-shl}
 use lib.Pow.{mod-mod-pow, pow-mono}
 use Rattle.card.specs.Bits.{bit, bits-of}
-use Rattle.card.specs.Withdrawing.{told, has, nobody}
-use Rattle.card.specs.declared.withdrawn.Withdrawn.{Withdrawn}
 
 one-below : (b : Bool) → cond b 1 0 ≤ 1
 one-below true = omega arith
@@ -75,22 +73,6 @@ bit-of p (suc k) s h = elim (cases-lt s k) [
   | inl lt ↦ bit-low (cond (p k) 1 0 * 2 ^ k + bits-of p k) (bits-of p k) s k lt (mod-low (cond (p k) 1 0) k (bits-of p k) (bits-below p k) ∙ sym (mod-eq-of-lt (bits-below p k))) ∙ bit-of p k s lt
   | inr le ↦ (let same : k ≡ s = omega arith in subst (λ u. bit (cond (p k) 1 0 * 2 ^ k + bits-of p k) u ≡ p u) same (ap (λ n. eqb (n % 2) 1) (shr-high (cond (p k) 1 0) k (bits-of p k) (bits-below p k)) ∙ one-bit (p k)))
 ]
-
--- what is told of a test, source by source
-pub has-told : (p : ℕ → Bool) (k s : ℕ) → s < k → has (told p k) s ≡ p s
-unfolding has told
-has-told p k s h = bit-of p k s h
-
-pub told-none : (p : ℕ → Bool) (k : ℕ) → ((s : ℕ) → s < k → p s ≡ false) → nobody ≡ told p k
-unfolding told nobody
-told-none p k h = ap stored (sym (bits-none p k h))
-  where
-    stored : ℕ → Withdrawn
-    stored n = record { bits = n }
-
-pub told-same : (p q : ℕ → Bool) (k : ℕ) → ((s : ℕ) → s < k → p s ≡ q s) → told p k ≡ told q k
-unfolding told
-told-same p q k h = ap (λ n. record { bits = n }) (bits-same p q k h)
 
 -- one bit of a word, as the code tests it
 pub word-bit : (n s : ℕ) → eqb (bitAnd (n / 2 ^ s) 1) 1 ≡ bit n s

@@ -1,3 +1,4 @@
 pub mod Picks
 pub mod Bitwise
+pub mod Withdrawals
 pub mod Balances

@@ -33,3 +33,8 @@ count-of test (a ∷ rest) = one (test a) + count-of test rest
 abbrev pub Every : {A : Type 0} → (A → Type 0) → List A → Type 0
 Every P [] = Unit {0}
 Every P (a ∷ rest) = P a × Every P rest
+
+-- P of each, given what those before it add up to: s at first, and then as `note` has it
+abbrev pub Along : {A S : Type 0} → (A → S → S) → (S → A → Type 0) → S → List A → Type 0
+Along note P s [] = Unit {0}
+Along note P s (a ∷ rest) = P s a × Along note P (note a s) rest

@@ -1,5 +1,5 @@
 ghost use mathlib.Core.Path.{_≡_};
-ghost use Rattle.card.specs.Withdrawing.{nobody, has, first-word};
+ghost use Rattle.card.specs.Withdrawing.{nobody, has, first-word, shifted, union};
 
 /// The sources whose held edge a call withdrew. Only this file knows how they are stored.
 #[derive(Clone, Copy, PartialEq, Eq, Debug)]
@@ -20,6 +20,27 @@ impl Withdrawn {
         ensures { λ r. ⌜ r ≡ has self source ⌝ }
     {
         source < 64 && self.bits >> source & 1 == 1
+    }
+
+    /// The same sources, each numbered higher by `by`.
+    pub fn shifted(self, by: usize) -> Withdrawn
+        ensures { λ r. ⌜ r ≡ shifted by self ⌝ }
+    {
+        if by >= 64 {
+            return Withdrawn::none();
+        }
+        Withdrawn {
+            bits: self.bits << by,
+        }
+    }
+
+    /// These sources and the others.
+    pub fn union(self, other: Withdrawn) -> Withdrawn
+        ensures { λ r. ⌜ r ≡ union self other ⌝ }
+    {
+        Withdrawn {
+            bits: self.bits | other.bits,
+        }
     }
 
     /// Sources 0 to 63 as a number: bit s is source s.

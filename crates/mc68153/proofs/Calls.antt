@@ -21,7 +21,7 @@ use Rattle.card.specs.Withdrawing.{told, nobody}
 use Rattle.card.specs.Meaning.{driving, lost}
 use Rattle.card.specs.Model.{unless-refused, changed-unless, write-fault, drive-result, drive-exit, write-result, write-exit, answer-result, answer-exit, reset-result}
 use Rattle.card.proofs.Picks.{chosen-by, none-picked}
-use Rattle.card.proofs.Bitwise.{told-none}
+use Rattle.card.proofs.Withdrawals.{told-none}
 use Rattle.bytes.proofs.Bytes.{by-bytes}
 use Rattle.bytes.proofs.Loops.{pick-top}
 use Rattle.mc68153.specs.declared.Input.{Input}

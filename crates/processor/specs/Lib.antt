@@ -1,0 +1,5 @@
+pub mod Rooms
+pub mod Faults
+pub mod Steps
+pub mod Tokens
+pub mod Events
