@@ -10,7 +10,8 @@ use Rattle.std.proofs.shelf.Bits.{mod-below}
 use Rattle.std.proofs.shelf.Tests.{ne-eqb}
 use Rattle.card.specs.Bits.{bit, bits-of}
 use Rattle.card.proofs.Bitwise.{bits-same, bits-none, bits-below, bit-of}
-use Rattle.bytes.specs.Bytes.{byte, put}
+use lib.Count.{leadingZeros}
+use Rattle.bytes.specs.Bytes.{byte, put, highest}
 use Rattle.bytes.proofs.Every.{every, at, same, same-eq}
 
 and-one : (a b : ℕ) → a < 2 → b < 2 → eqb (bitAnd a b) 1 ≡ (eqb a 1 && eqb b 1)
@@ -102,3 +103,26 @@ masked m p t x h = is-byte _ (λ c. p c && bit x c) (omega (arith, lib.Bits.and-
 -- a byte keeps its bits where one past them is put
 pub put-past : (x n : ℕ) (on : Bool) → x < 256 → 8 ≤ n → x ≡ put n on x
 put-past x n on h past = is-byte x (λ c. cond (eqb c n) on (bit x c)) h (λ c l. sym (ap (λ b. cond b on (bit x c)) (ne-eqb c n (λ e. omega arith))))
+
+-- the highest bit that is set
+pub top-set : (x : ℕ) → x < 256 → cond (eqb x 0) 0 (7 - leadingZeros 8 x) ≡ highest (bit x) 7
+unfolding highest leadingZeros
+top-set = by-bytes (λ x. cond (eqb x 0) 0 (7 - leadingZeros 8 x)) (λ x. highest (bit x) 7) tt
+
+pub highest-le : (test : ℕ → Bool) (n : ℕ) → highest test n ≤ n
+unfolding highest
+highest-le test zero = omega arith
+highest-le test (suc n) = go (test (suc n)) (highest-le test n)
+  where
+    go : (b : Bool) → highest test n ≤ n → cond b (suc n) (highest test n) ≤ suc n
+    go true h = omega arith
+    go false h = omega arith
+
+pub highest-same : (p q : ℕ → Bool) (n : ℕ) → ((k : ℕ) → k ≤ n → p k ≡ q k) → highest p n ≡ highest q n
+unfolding highest
+highest-same p q zero e = refl
+highest-same p q (suc n) e = ap₂ (λ b m. cond b (suc n) m) (e (suc n) (omega arith)) (highest-same p q n (λ k h. e k (omega arith)))
+
+-- two tests that both hold, byte by byte
+pub and-byte : (p q : ℕ → Bool) → bitAnd (byte p) (byte q) ≡ byte (λ c. p c && q c)
+and-byte p q = is-byte _ (λ c. p c && q c) (omega (arith, lib.Bits.and-le-l (byte p) (byte q), byte-below p)) (λ c l. bit-and (byte p) (byte q) c ∙ ap₂ _&&_ (bit-byte p c l) (bit-byte q c l))

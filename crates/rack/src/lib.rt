@@ -1,0 +1,16 @@
+// The rack: any handler above any chain of cards, and one processor. Its calls, by depth and by token.
+
+mod calls;
+mod faults;
+mod levels;
+mod rack;
+
+pub use calls::Call;
+pub use calls::Outcome;
+pub use calls::Reached;
+pub use calls::SPURIOUS_VECTOR;
+pub use calls::Side;
+pub use faults::RackFault;
+pub use faults::RackFaultFromCardFault;
+pub use faults::RackFaultFromProcessorFault;
+pub use rack::Rack;
