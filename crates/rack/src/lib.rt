@@ -4,6 +4,7 @@ mod calls;
 mod faults;
 mod levels;
 mod rack;
+mod tokens;
 
 pub use calls::Call;
 pub use calls::Outcome;
