@@ -1,0 +1,4 @@
+pub mod Edges
+pub mod Rights
+pub mod Takes
+pub mod Keeps
