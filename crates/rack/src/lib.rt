@@ -12,6 +12,8 @@ pub use calls::Reached;
 pub use calls::SPURIOUS_VECTOR;
 pub use calls::Side;
 pub use faults::RackFault;
+pub use faults::RackFaultDebug;
 pub use faults::RackFaultFromCardFault;
 pub use faults::RackFaultFromProcessorFault;
+pub use faults::RackFaultPartialEq;
 pub use rack::Rack;

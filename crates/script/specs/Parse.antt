@@ -9,9 +9,10 @@ use Rattle.std.specs.declared.option.Option.the-variants.{Some, None}
 use Rattle.std.specs.declared.result.Result.{Result}
 use Rattle.std.specs.declared.result.Result.the-variants.{Ok, Err}
 use Rattle.script.specs.declared.words.Word.{Word}
-use Rattle.script.specs.declared.words.Word.the-variants.{Line, Put, Get}
-use Rattle.script.specs.declared.words.Call.{Call}
-use Rattle.script.specs.declared.words.Call.the-variants.{Drive, Write, Read}
+use Rattle.script.specs.declared.words.Word.the-variants.{Line, Local, Put, Get, LocalPut, LocalGet, Mask, Take, Ack, Back, Reset}
+use Rattle.rack.specs.declared.calls.Side.the-variants.{Local as LocalSide, Chain}
+use Rattle.rack.specs.declared.calls.Call.{Call}
+use Rattle.rack.specs.declared.calls.Call.the-variants.{Drive, Read, Write, Mask as MaskCall, Take as TakeCall, Acknowledge, Return, Reset as ResetCall}
 use Rattle.script.specs.declared.faults.ScriptFault.{ScriptFault}
 use Rattle.script.specs.declared.faults.ScriptFault.the-variants.{LongLine, UnknownWord, WrongCount, BadField}
 use Rattle.script.specs.Pieces.{fields}
@@ -41,11 +42,19 @@ abbrev pub with : {A : Type 0} → (A → Call) → Result A ScriptFault → Res
 with make (Ok a) = Ok (make a)
 with make (Err e) = Err e
 
--- a wire is 0, negated, or 1, asserted
+-- the call of each word, with its numbers; a wire is 0, negated, or 1, asserted
 abbrev pub call-of : Word → List (List ℕ) → Result Call ScriptFault
-call-of Line fs = with (λ v. Drive (v .0) (eqb (v .1) 1)) (both 1 fs)
-call-of Put fs = with (λ v. Write (v .0) (v .1)) (both 255 fs)
-call-of Get fs = with Read (single fs)
+call-of Line fs = with (λ v. Drive Chain (v .0) (eqb (v .1) 1)) (both 1 fs)
+call-of Local fs = with (λ v. Drive LocalSide (v .0) (eqb (v .1) 1)) (both 1 fs)
+call-of Put fs = with (λ v. Write Chain (v .0) (v .1)) (both 255 fs)
+call-of Get fs = with (Read Chain) (single fs)
+call-of LocalPut fs = with (λ v. Write LocalSide (v .0) (v .1)) (both 255 fs)
+call-of LocalGet fs = with (Read LocalSide) (single fs)
+call-of Mask fs = with MaskCall (single fs)
+call-of Take fs = Ok TakeCall
+call-of Ack fs = Ok Acknowledge
+call-of Back fs = with Return (single fs)
+call-of Reset fs = Ok ResetCall
 
 -- by rising number: unknown word, wrong count of fields, bad field
 abbrev pub worded : Option Word → List (List ℕ) → Result Call ScriptFault

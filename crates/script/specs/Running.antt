@@ -1,77 +1,96 @@
--- A script on a card: what each line gives and leaves, and what is printed.
+-- A script on a rack: what each line gives and leaves, what is printed, and the calls that it makes.
 use mathlib.Core.Bool.{Bool, cond}
 use mathlib.Core.List.{List, [], _∷_, _++_}
+use mathlib.Core.Path.{_≡_}
 use Prim.Native.Nat.{ℕ, _+_}
 use lib.Dec.{ltb}
 use lib.ListN.{length}
 use Rattle.std.specs.declared.result.Result.{Result}
 use Rattle.std.specs.declared.result.Result.the-variants.{Ok, Err}
-use Rattle.card.specs.declared.faults.CardFault.{CardFault}
-use Rattle.card.specs.Model.{Model, drive-result, drive-exit, read-result, write-result, write-exit, levels-asked}
-use Rattle.script.specs.declared.words.Call.{Call}
-use Rattle.script.specs.declared.words.Call.the-variants.{Drive, Write, Read}
-use Rattle.script.specs.declared.words.Outcome.{Outcome}
-use Rattle.script.specs.declared.words.Outcome.the-variants.{Drove, Withdrew, Showed}
+use Rattle.rack.specs.declared.calls.Call.{Call}
+use Rattle.rack.specs.declared.calls.Outcome.{Outcome}
+use Rattle.rack.specs.declared.faults.RackFault.{RackFault}
+use Rattle.rack.specs.Machine.{Parts, State, rack-gives, rack-leaves}
+use Rattle.runs.specs.Turns.{results-of}
+use Rattle.runs.specs.Law.{NoEdges, RunKeeps}
 use Rattle.script.specs.declared.faults.ScriptFault.{ScriptFault}
-use Rattle.script.specs.declared.faults.ScriptFault.the-variants.{ShortOutput, LongScript, Card}
+use Rattle.script.specs.declared.faults.ScriptFault.the-variants.{ShortOutput, LongScript, Rack}
 use Rattle.script.specs.Pieces.{lines}
 use Rattle.script.specs.Parse.{parsed}
 use Rattle.script.specs.Printing.{printed, over}
 
--- what the card gave, as a line's result
-abbrev pub of-card : {A : Type 0} → (A → Outcome) → Result A CardFault → Result Outcome ScriptFault
-of-card make (Ok a) = Ok (make a)
-of-card make (Err e) = Err (Card e)
+-- what the rack gave, as a line's result
+abbrev pub of-rack : Result Outcome RackFault → Result Outcome ScriptFault
+of-rack (Ok o) = Ok o
+of-rack (Err e) = Err (Rack e)
 
--- what a call gives on a card in state x, and leaves; the bus lines of a read are the levels that the card asks at
-abbrev pub call-gives : {X : Type 0} → Model X → X → Call → Result Outcome ScriptFault
-call-gives c x (Drive s asserted) = of-card Drove (drive-result c x s asserted)
-call-gives c x (Write r v) = of-card Withdrew (write-result c x r v)
-call-gives c x (Read r) = of-card Showed (read-result c x r (levels-asked c x))
+abbrev pub gives-by : {H C : Type 0} → Parts H C → State H C → Result Call ScriptFault → Result Outcome ScriptFault
+gives-by p x (Ok c) = of-rack (rack-gives p x c)
+gives-by p x (Err e) = Err e
 
-abbrev pub call-leaves : {X : Type 0} → Model X → X → Call → X
-call-leaves c x (Drive s asserted) = drive-exit c x s asserted
-call-leaves c x (Write r v) = write-exit c x r v
-call-leaves c x (Read r) = x
+abbrev pub leaves-by : {H C : Type 0} → Parts H C → State H C → Result Call ScriptFault → State H C
+leaves-by p x (Ok c) = rack-leaves p x c
+leaves-by p x (Err e) = x
 
-abbrev pub gives-by : {X : Type 0} → Model X → X → Result Call ScriptFault → Result Outcome ScriptFault
-gives-by c x (Ok call) = call-gives c x call
-gives-by c x (Err e) = Err e
+-- A line: what it gives, and what it leaves. A line that can't be parsed changes nothing.
+abbrev pub line-gives : {H C : Type 0} → Parts H C → State H C → List ℕ → Result Outcome ScriptFault
+line-gives p x t = gives-by p x (parsed t)
 
-abbrev pub leaves-by : {X : Type 0} → Model X → X → Result Call ScriptFault → X
-leaves-by c x (Ok call) = call-leaves c x call
-leaves-by c x (Err e) = x
-
--- a line
-abbrev pub line-gives : {X : Type 0} → Model X → X → List ℕ → Result Outcome ScriptFault
-line-gives c x t = gives-by c x (parsed t)
-
-abbrev pub line-leaves : {X : Type 0} → Model X → X → List ℕ → X
-line-leaves c x t = leaves-by c x (parsed t)
+abbrev pub line-leaves : {H C : Type 0} → Parts H C → State H C → List ℕ → State H C
+line-leaves p x t = leaves-by p x (parsed t)
 
 -- what is printed of line n
-abbrev pub line-text : {X : Type 0} → Model X → X → ℕ → List ℕ → List ℕ
-line-text c x n t = printed n (line-gives c x t)
+abbrev pub line-text : {H C : Type 0} → Parts H C → State H C → ℕ → List ℕ → List ℕ
+line-text p x n t = printed n (line-gives p x t)
 
 -- A line call with an output buffer: one under 128 bytes is refused, and nothing is written or changed. Else the line's text stands
 -- at the start of the buffer, and the rest of it is as it was.
 abbrev pub short : List ℕ → Bool
 short out = ltb (length out) 128
 
-abbrev pub line-result : {X : Type 0} → Model X → X → ℕ → List ℕ → List ℕ → Result ℕ ScriptFault
-line-result c x n t out = cond (short out) (Err ShortOutput) (Ok (length (line-text c x n t)))
+abbrev pub line-result : {H C : Type 0} → Parts H C → State H C → ℕ → List ℕ → List ℕ → Result ℕ ScriptFault
+line-result p x n t out = cond (short out) (Err ShortOutput) (Ok (length (line-text p x n t)))
 
-abbrev pub line-output : {X : Type 0} → Model X → X → ℕ → List ℕ → List ℕ → List ℕ
-line-output c x n t out = cond (short out) out (over (line-text c x n t) out)
+abbrev pub line-output : {H C : Type 0} → Parts H C → State H C → ℕ → List ℕ → List ℕ → List ℕ
+line-output p x n t out = cond (short out) out (over (line-text p x n t) out)
 
-abbrev pub line-exit : {X : Type 0} → Model X → X → List ℕ → List ℕ → X
-line-exit c x t out = cond (short out) x (line-leaves c x t)
+abbrev pub line-exit : {H C : Type 0} → Parts H C → State H C → List ℕ → List ℕ → State H C
+line-exit p x t out = cond (short out) x (line-leaves p x t)
 
--- what lines print, numbered from n
-abbrev pub printed-by : {X : Type 0} → Model X → X → ℕ → List (List ℕ) → List ℕ
-printed-by c x n [] = []
-printed-by c x n (t ∷ ts) = line-text c x n t ++ printed-by c (line-leaves c x t) (n + 1) ts
+-- The calls that lines make: one that can't be parsed makes none.
+abbrev pub and-call : Result Call ScriptFault → List Call → List Call
+and-call (Ok c) cs = c ∷ cs
+and-call (Err e) cs = cs
 
--- What a whole script prints: one over 65,536 bytes only its refusal, numbered 0.
-abbrev pub output : {X : Type 0} → Model X → X → List ℕ → List ℕ
-output c x s = cond (ltb 65536 (length s)) (printed 0 (Err LongScript)) (printed-by c x 1 (lines s))
+abbrev pub calls-of : List (List ℕ) → List Call
+calls-of [] = []
+calls-of (t ∷ ts) = and-call (parsed t) (calls-of ts)
+
+-- What lines print, numbered from n: one that makes a call tells the next result of the run, another its fault.
+abbrev pub told-by : (List (Result Outcome RackFault) → ℕ → List ℕ) → ℕ → Result Call ScriptFault → List (Result Outcome RackFault) → List ℕ
+told-by more n (Err e) rs = printed n (Err e) ++ more rs (n + 1)
+told-by more n (Ok c) [] = []
+told-by more n (Ok c) (r ∷ rs) = printed n (of-rack r) ++ more rs (n + 1)
+
+abbrev pub told : List (List ℕ) → List (Result Outcome RackFault) → ℕ → List ℕ
+told [] rs n = []
+told (t ∷ ts) rs n = told-by (told ts) n (parsed t) rs
+
+-- what lines print on a rack in state x
+abbrev pub printed-by : {H C : Type 0} → Parts H C → State H C → ℕ → List (List ℕ) → List ℕ
+printed-by p x n ts = told ts (results-of p x (calls-of ts)) n
+
+-- A whole script: the calls that it makes, and what it prints. One over 65,536 bytes makes none, and prints only its refusal, numbered 0.
+abbrev pub too-long : List ℕ → Bool
+too-long s = ltb 65536 (length s)
+
+abbrev pub script-calls : List ℕ → List Call
+script-calls s = cond (too-long s) [] (calls-of (lines s))
+
+abbrev pub output : {H C : Type 0} → Parts H C → State H C → List ℕ → List ℕ
+output p x s = cond (too-long s) (printed 0 (Err LongScript)) (printed-by p x 1 (lines s))
+
+-- A script that was run on a rack in state x: every byte that it printed, and the law over the run that it made.
+pub record ScriptRan {H C : Type 0} (p : Parts H C) (x : State H C) (s out : List ℕ) : Type 0 where
+  pub prints : out ≡ output p x s
+  pub keeps : NoEdges p x → RunKeeps p x (script-calls s)

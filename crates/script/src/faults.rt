@@ -1,13 +1,13 @@
 ghost use mathlib.Core.Path.{_≡_};
 ghost use Rattle.card.specs.declared.faults.Layer.the-variants.{Script};
 ghost use Rattle.card.specs.Faults.{refusal};
-ghost use Rattle.script.specs.declared.faults.ScriptFault.the-variants.{Card};
+ghost use Rattle.script.specs.declared.faults.ScriptFault.the-variants.{Rack};
 ghost use Rattle.script.specs.Faults.{script-refusal};
-use card::CardFault;
-use card::CardFaultDebug;
-use card::CardFaultPartialEq;
 use card::Layer;
 use card::Refusal;
+use rack::RackFault;
+use rack::RackFaultDebug;
+use rack::RackFaultPartialEq;
 
 /// Why a line, or a whole script, is refused.
 #[derive(Clone, Copy, PartialEq, Eq, Debug)]
@@ -24,15 +24,15 @@ pub enum ScriptFault {
     BadField(u8),
     /// The script has over 65,536 bytes.
     LongScript,
-    /// The card refused the call.
-    Card(CardFault),
+    /// The rack refused the call.
+    Rack(RackFault),
 }
 
-pub impl From<CardFault> for ScriptFault as ScriptFaultFromCardFault {
-    ghost converts = { λ fault r. r ≡ Card fault };
+pub impl From<RackFault> for ScriptFault as ScriptFaultFromRackFault {
+    ghost converts = { λ fault r. r ≡ Rack fault };
 
-    fn from(fault: CardFault) -> ScriptFault {
-        ScriptFault::Card(fault)
+    fn from(fault: RackFault) -> ScriptFault {
+        ScriptFault::Rack(fault)
     }
 }
 
@@ -59,7 +59,7 @@ impl ScriptFault {
             ScriptFault::WrongCount => by_script(12, 0),
             ScriptFault::BadField(place) => by_script(13, place),
             ScriptFault::LongScript => by_script(19, 0),
-            ScriptFault::Card(fault) => fault.refusal(),
+            ScriptFault::Rack(fault) => fault.refusal(),
         }
     }
 }

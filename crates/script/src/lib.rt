@@ -1,4 +1,4 @@
-// Scripts: lines in, lines out. A line makes one call of a card; what is printed of it is its number and the result.
+// Scripts: lines in, lines out. A line makes one call of a rack; what is printed of it is its number and the result.
 
 mod cutting;
 mod faults;
@@ -9,9 +9,10 @@ mod running;
 mod words;
 
 pub use faults::ScriptFault;
+pub use faults::ScriptFaultDebug;
+pub use faults::ScriptFaultFromRackFault;
+pub use faults::ScriptFaultPartialEq;
 pub use parsing::parse;
 pub use running::line;
 pub use running::obey;
 pub use running::run_script;
-pub use words::Call;
-pub use words::Outcome;

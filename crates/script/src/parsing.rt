@@ -1,12 +1,15 @@
 ghost use mathlib.Core.Path.{_≡_};
 ghost use Rattle.script.specs.Pieces.{fields};
 ghost use Rattle.script.specs.Format.{numeral};
-ghost use Rattle.script.specs.Parse.{single, both, call-of, parsed};
+ghost use Rattle.script.specs.Parse.{single, both, with, call-of, parsed};
+ghost use Rattle.rack.specs.declared.calls.Call.the-variants.{Drive, Read, Write};
+ghost use lib.Dec.{eqb};
 use crate::cutting::field;
 use crate::cutting::field_count;
 use crate::faults::ScriptFault;
-use crate::words::Call;
 use crate::words::Word;
+use rack::Call;
+use rack::Side;
 
 // One to three digits, of a number up to `top`.
 fn number(digits: &[u8], top: u8) -> Option<u8>
@@ -60,22 +63,53 @@ fn call_of(word: Word, text: &[u8]) -> Result<Call, ScriptFault>
     ensures { λ r. ⌜ r ≡ call-of word (fields (now (text .entry))) ⌝ }
 {
     match word {
-        Word::Line => {
-            let (source, wire) = two_numbers(text, 1)?;
-            Ok(Call::Drive {
-                source,
-                asserted: wire == 1,
-            })
+        Word::Line => drive(Side::Chain, text),
+        Word::Local => drive(Side::Local, text),
+        Word::Put => write(Side::Chain, text),
+        Word::Get => read(Side::Chain, text),
+        Word::LocalPut => write(Side::Local, text),
+        Word::LocalGet => read(Side::Local, text),
+        Word::Mask => {
+            let mask = one_number(text)?;
+            Ok(Call::Mask { mask })
         }
-        Word::Put => {
-            let (register, value) = two_numbers(text, 255)?;
-            Ok(Call::Write { register, value })
+        Word::Take => Ok(Call::Take),
+        Word::Ack => Ok(Call::Acknowledge),
+        Word::Back => {
+            let depth = one_number(text)?;
+            Ok(Call::Return { depth })
         }
-        Word::Get => {
-            let register = one_number(text)?;
-            Ok(Call::Read { register })
-        }
+        Word::Reset => Ok(Call::Reset),
     }
+}
+
+fn drive(side: Side, text: &[u8]) -> Result<Call, ScriptFault>
+    ensures { λ r. ⌜ r ≡ with (λ v. Drive side (v .0) (eqb (v .1) 1)) (both 1 (fields (now (text .entry)))) ⌝ }
+{
+    let (source, wire) = two_numbers(text, 1)?;
+    Ok(Call::Drive {
+        side,
+        source,
+        asserted: wire == 1,
+    })
+}
+
+fn write(side: Side, text: &[u8]) -> Result<Call, ScriptFault>
+    ensures { λ r. ⌜ r ≡ with (λ v. Write side (v .0) (v .1)) (both 255 (fields (now (text .entry)))) ⌝ }
+{
+    let (register, value) = two_numbers(text, 255)?;
+    Ok(Call::Write {
+        side,
+        register,
+        value,
+    })
+}
+
+fn read(side: Side, text: &[u8]) -> Result<Call, ScriptFault>
+    ensures { λ r. ⌜ r ≡ with (Read side) (single (fields (now (text .entry)))) ⌝ }
+{
+    let register = one_number(text)?;
+    Ok(Call::Read { side, register })
 }
 
 /// The call that a line makes. The line's byte 10 is not part of it.

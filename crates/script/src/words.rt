@@ -2,31 +2,21 @@ ghost use mathlib.Core.Path.{_≡_};
 ghost use Prim.Native.Nat.{_≤_};
 ghost use Rattle.std.specs.shelf.Text.{sameBytes};
 ghost use Rattle.script.specs.Format.{spelled, arity};
-use card::Driven;
-use card::Withdrawn;
-
-/// The call that a line makes.
-#[derive(Clone, Copy)]
-pub enum Call {
-    Drive { source: u8, asserted: bool },
-    Write { register: u8, value: u8 },
-    Read { register: u8 },
-}
-
-/// What a granted call gave.
-#[derive(Clone, Copy)]
-pub enum Outcome {
-    Drove(Driven),
-    Withdrew(Withdrawn),
-    Showed(u8),
-}
 
 /// The first field of a line.
 #[derive(Clone, Copy)]
 pub(crate) enum Word {
     Line,
+    Local,
     Put,
     Get,
+    LocalPut,
+    LocalGet,
+    Mask,
+    Take,
+    Ack,
+    Back,
+    Reset,
 }
 
 fn is_text(text: &[u8], word: &[u8]) -> bool
@@ -42,10 +32,26 @@ impl Word {
     {
         if is_text(text, b"line") {
             Some(Word::Line)
+        } else if is_text(text, b"local") {
+            Some(Word::Local)
         } else if is_text(text, b"put") {
             Some(Word::Put)
         } else if is_text(text, b"get") {
             Some(Word::Get)
+        } else if is_text(text, b"lput") {
+            Some(Word::LocalPut)
+        } else if is_text(text, b"lget") {
+            Some(Word::LocalGet)
+        } else if is_text(text, b"mask") {
+            Some(Word::Mask)
+        } else if is_text(text, b"take") {
+            Some(Word::Take)
+        } else if is_text(text, b"ack") {
+            Some(Word::Ack)
+        } else if is_text(text, b"back") {
+            Some(Word::Back)
+        } else if is_text(text, b"reset") {
+            Some(Word::Reset)
         } else {
             None
         }
@@ -57,8 +63,9 @@ impl Word {
         ensures bound { λ r. ⌜ r ≤ 2 ⌝ }
     {
         match self {
-            Word::Line | Word::Put => 2,
-            Word::Get => 1,
+            Word::Line | Word::Local | Word::Put | Word::LocalPut => 2,
+            Word::Get | Word::LocalGet | Word::Mask | Word::Back => 1,
+            Word::Take | Word::Ack | Word::Reset => 0,
         }
     }
 }
