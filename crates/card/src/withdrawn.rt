@@ -47,6 +47,7 @@ impl Withdrawn {
     pub fn first_word(self) -> u64
         ensures { λ r. ⌜ r ≡ first-word self ⌝ }
     {
-        self.bits
+        let Withdrawn { bits: word } = self;
+        word
     }
 }

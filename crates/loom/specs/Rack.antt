@@ -20,7 +20,7 @@ loom-parts = parts plain-model (λ x n. x) (join mc68153-model mc68153-model)
 
 -- a new rack: processor 1, and every card as made
 abbrev pub loom-start : State PlainHandler LoomChain
-loom-start = start 1 (record { }) (pair fresh fresh)
+loom-start = start 1 (record {}) (pair fresh fresh)
 
 -- every byte that the script printed, and the law over the run of the calls that it made
 pub record LoomRan (s printed : List ℕ) : Type 0 where

@@ -128,11 +128,21 @@ module _ {S C R : Type 0} (give : S → C → R) (next : S → C → S) (of : S 
   machine-keeps x idle none cs =
       let ts = turns give next x cs in
       record {
-        taken-once = omega (arith,
-            balance-run give next (λ y. one (is-taken (of y .state))) (λ t. is-took (event t)) (λ t. is-opened (event t)) (λ _. false) (λ y c. taken-balance (of y) (of (next y c)) (event (turn-of give next y c)) (shape y c)) x cs,
-            none-of ts, count-map (entry of event) (λ e. is-took (e .event)) ts, count-map (entry of event) (λ e. is-opened (e .event)) ts, ap (λ s. one (is-taken s)) idle);
-        served-once = omega (arith,
-            balance-run give next (λ y. length (of y .services)) (λ t. is-opened (event t)) (λ t. is-returned (event t)) (λ _. false) (λ y c. served-balance (of y) (of (next y c)) (event (turn-of give next y c)) (shape y c)) x cs,
-            none-of ts, count-map (entry of event) (λ e. is-opened (e .event)) ts, count-map (entry of event) (λ e. is-returned (e .event)) ts, ap length none);
+        taken-once = omega (
+          arith,
+          balance-run give next (λ y. one (is-taken (of y .state))) (λ t. is-took (event t)) (λ t. is-opened (event t)) (λ _. false) (λ y c. taken-balance (of y) (of (next y c)) (event (turn-of give next y c)) (shape y c)) x cs,
+          none-of ts,
+          count-map (entry of event) (λ e. is-took (e .event)) ts,
+          count-map (entry of event) (λ e. is-opened (e .event)) ts,
+          ap (λ s. one (is-taken s)) idle,
+        );
+        served-once = omega (
+          arith,
+          balance-run give next (λ y. length (of y .services)) (λ t. is-opened (event t)) (λ t. is-returned (event t)) (λ _. false) (λ y c. served-balance (of y) (of (next y c)) (event (turn-of give next y c)) (shape y c)) x cs,
+          none-of ts,
+          count-map (entry of event) (λ e. is-opened (e .event)) ts,
+          count-map (entry of event) (λ e. is-returned (e .event)) ts,
+          ap length none,
+        );
         put-back = run-puts-back x cs [] (sym (ap (λ s. waiting s (of x .services)) idle ∙ none));
       }

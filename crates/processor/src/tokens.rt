@@ -31,11 +31,10 @@ impl TakenToken {
         self.level
     }
 
-    /// The depth of the service to come.
-    pub fn depth(&self) -> u8
-        ensures { λ r. ⌜ r ≡ now (self .entry) .depth ⌝ }
-    {
-        self.depth
+    // Lets the token go, spent.
+    pub(crate) fn spend(self) {
+        let mut token = self;
+        token.spent = true;
     }
 }
 
@@ -60,11 +59,10 @@ impl Drop for ServiceToken {
 }
 
 impl ServiceToken {
-    /// The depth of the service.
-    pub fn depth(&self) -> u8
-        ensures { λ r. ⌜ r ≡ now (self .entry) .depth ⌝ }
-    {
-        self.depth
+    // Lets the token go, spent.
+    pub(crate) fn spend(self) {
+        let mut service = self;
+        service.spent = true;
     }
 }
 

@@ -28,6 +28,7 @@ use Rattle.rack.specs.declared.calls.Outcome.the-variants.{Drove, Showed, With
 use Rattle.rack.specs.declared.faults.RackFault.{RackFault}
 use Rattle.rack.specs.declared.faults.RackFault.the-variants.{Card, Processor}
 use Rattle.rack.specs.declared.rack.Rack.{Rack}
+use Rattle.rack.specs.Words.{spurious-vector}
 
 -- The kinds of a rack's handler and chain, and what a notice does to the handler.
 pub record Parts (H C : Type 0) : Type 0 where
@@ -86,9 +87,9 @@ answer-of f s = record { source = s; reply = f s .reply }
 
 abbrev pub reached-by : (ℕ → Source) → (ℕ → Source) → Option ℕ → Bool → Option ℕ → Reached
 reached-by f g (Some s) admits chain = At Local (answer-of f s)
-reached-by f g None false chain = Spurious
+reached-by f g None false chain = Spurious spurious-vector
 reached-by f g None true (Some t) = At Chain (answer-of g t)
-reached-by f g None true None = Spurious
+reached-by f g None true None = Spurious spurious-vector
 
 abbrev pub reached : {H C : Type 0} → Parts H C → State H C → ℕ → Reached
 reached p x n = reached-by (source-at p Local x) (source-at p Chain x) (chosen-at p Local x n) (admitted p x n) (chosen-at p Chain x n)

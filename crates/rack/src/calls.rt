@@ -4,9 +4,6 @@ use card::Answer;
 use card::Driven;
 use card::Withdrawn;
 
-/// The vector that comes where no source answers an acknowledge.
-pub const SPURIOUS_VECTOR: u8 = 24;
-
 /// A side of a rack: the handler's own sources and registers, or the chain's.
 #[derive(Clone, Copy, PartialEq, Eq, Debug)]
 pub enum Side {
@@ -34,20 +31,33 @@ pub enum Call {
         source: u8,
         asserted: bool,
     },
-    Read { side: Side, register: u8 },
-    Write { side: Side, register: u8, value: u8 },
-    Mask { mask: u8 },
+    Read {
+        side: Side,
+        register: u8,
+    },
+    Write {
+        side: Side,
+        register: u8,
+        value: u8,
+    },
+    Mask {
+        mask: u8,
+    },
     Take,
     Acknowledge,
-    Return { depth: u8 },
+    Return {
+        depth: u8,
+    },
     Reset,
 }
 
-/// Who answered an acknowledge: a source of a side, or nobody, and then the spurious vector comes.
+/// Who answered an acknowledge.
 #[derive(Clone, Copy)]
 pub enum Reached {
+    /// A source of a side, with its reply.
     At(Side, Answer),
-    Spurious,
+    /// Nobody: the spurious vector comes, which is 24.
+    Spurious(u8),
 }
 
 /// What a granted call gave.

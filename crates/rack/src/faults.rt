@@ -2,10 +2,10 @@ ghost use mathlib.Core.Path.{_≡_};
 ghost use Rattle.rack.specs.declared.faults.RackFault.the-variants.{Card, Processor};
 ghost use Rattle.rack.specs.Faults.{rack-refusal};
 use card::CardFault;
-use card::Refusal;
-use processor::ProcessorFault;
 use card::CardFaultDebug;
 use card::CardFaultPartialEq;
+use card::Refusal;
+use processor::ProcessorFault;
 use processor::ProcessorFaultDebug;
 use processor::ProcessorFaultPartialEq;
 

@@ -9,7 +9,6 @@ mod tokens;
 pub use calls::Call;
 pub use calls::Outcome;
 pub use calls::Reached;
-pub use calls::SPURIOUS_VECTOR;
 pub use calls::Side;
 pub use faults::RackFault;
 pub use faults::RackFaultDebug;

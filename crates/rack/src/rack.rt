@@ -200,6 +200,6 @@ impl<H: Handler, C: Card> Rack<H, C> {
                 return Reached::At(Side::Chain, answer);
             }
         }
-        Reached::Spurious
+        Reached::Spurious(24)
     }
 }

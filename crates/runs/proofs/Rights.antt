@@ -36,9 +36,9 @@ module _ {H C : Type 0} (p : Parts H C) (lh : Laws (p .handler)) (ln : NoticeLaw
   rightly-by : (n : ℕ) (a : Option ℕ) (m : Bool) (b : Option ℕ) → Chosen (source-at p Local x) n (count-at p Local) a → admitted p x n ≡ m → Chosen (source-at p Chain x) n (count-at p Chain) b
       → Rightly p x n (reached-by (source-at p Local x) (source-at p Chain x) a m b)
   rightly-by n (Some s) m b ca em cb = (ca, refl)
-  rightly-by n None false b ca em cb = (ca, λ yes-so. absurd (both-ways (admitted p x n) em yes-so))
+  rightly-by n None false b ca em cb = (refl, ca, λ yes-so. absurd (both-ways (admitted p x n) em yes-so))
   rightly-by n None true (Some t) ca em cb = (ca, em, cb, refl)
-  rightly-by n None true None ca em cb = (ca, λ h. cb)
+  rightly-by n None true None ca em cb = (refl, ca, λ h. cb)
 
   only-local : (n : ℕ) (a : Option ℕ) (m : Bool) (b : Option ℕ) → Chosen (source-at p Local x) n (count-at p Local) a
       → (s : ℕ) → s < count-at p Local → source-at p Local x s .held ≡ true → source-of (p .handler) (handler-answered p x n a m) s .held ≡ false → is-source Local s (reached-by (source-at p Local x) (source-at p Chain x) a m b) ≡ true

@@ -21,15 +21,16 @@ use Rattle.rack.specs.declared.calls.Reached.the-variants.{At, Spurious}
 use Rattle.rack.specs.declared.calls.Outcome.{Outcome}
 use Rattle.rack.specs.declared.calls.Outcome.the-variants.{Took, Answered}
 use Rattle.rack.specs.declared.faults.RackFault.{RackFault}
+use Rattle.rack.specs.Words.{spurious-vector}
 use Rattle.rack.specs.Machine.{Parts, State, source-at, count-at, admitted}
 use Rattle.runs.specs.Turns.{RackTurn, turns-of, results-of, end-of-run, latched, answered, withdrew, is-source, event}
 
 -- Who answers an acknowledge at level n in state x: the local source of smallest rank asking there, if one asks; if none does and the
--- handler admits the level, the chain source of smallest rank asking there, if one asks; otherwise nobody, and the spurious vector comes.
+-- handler admits the level, the chain source of smallest rank asking there, if one asks; otherwise the spurious vector comes.
 abbrev pub Rightly : {H C : Type 0} → Parts H C → State H C → ℕ → Reached → Type 0
 Rightly p x n (At Local a) = Smallest (source-at p Local x) n (count-at p Local) (a .source) × (a .reply ≡ source-at p Local x (a .source) .reply)
 Rightly p x n (At Chain a) = Nobody (source-at p Local x) n (count-at p Local) × (admitted p x n ≡ true) × Smallest (source-at p Chain x) n (count-at p Chain) (a .source) × (a .reply ≡ source-at p Chain x (a .source) .reply)
-Rightly p x n Spurious = Nobody (source-at p Local x) n (count-at p Local) × (admitted p x n ≡ true → Nobody (source-at p Chain x) n (count-at p Chain))
+Rightly p x n (Spurious v) = (v ≡ spurious-vector) × Nobody (source-at p Local x) n (count-at p Local) × (admitted p x n ≡ true → Nobody (source-at p Chain x) n (count-at p Chain))
 
 -- A granted acknowledge, where the events before it say that `level` is taken: it is answered rightly at that level, and no other source
 -- loses an edge by it.

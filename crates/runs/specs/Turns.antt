@@ -74,7 +74,7 @@ latched z s t = drives-it z s (t .call) && says tells-latch (t .gave)
 -- It answered an acknowledge while of edge sort.
 abbrev pub is-source : Side → ℕ → Reached → Bool
 is-source z s (At y a) = same-side z y && eqb (a .source) s
-is-source z s Spurious = false
+is-source z s (Spurious v) = false
 
 abbrev pub tells-answer : Side → ℕ → Outcome → Bool
 tells-answer z s (Drove d) = false

@@ -16,7 +16,7 @@ use Rattle.rack.specs.declared.calls.Reached.{Reached}
 use Rattle.rack.specs.declared.calls.Reached.the-variants.{At, Spurious}
 use Rattle.rack.specs.declared.calls.Outcome.{Outcome}
 use Rattle.rack.specs.declared.calls.Outcome.the-variants.{Drove, Showed, Withdrew, Masked, Took, Answered, Returned, Cleared}
-use Rattle.rack.specs.Words.{side-word, spurious-vector}
+use Rattle.rack.specs.Words.{side-word}
 use Rattle.std.specs.declared.option.Option.{Option}
 use Rattle.std.specs.declared.option.Option.the-variants.{Some, None}
 use Rattle.script.specs.declared.faults.ScriptFault.{ScriptFault}
@@ -34,7 +34,7 @@ reply-fields z s Outside = codes "outside" ∷ side-word z ∷ decimal s ∷ []
 
 abbrev pub reached-fields : Reached → List (List ℕ)
 reached-fields (At z a) = reply-fields z (a .source) (a .reply)
-reached-fields Spurious = codes "spurious" ∷ decimal spurious-vector ∷ []
+reached-fields (Spurious v) = codes "spurious" ∷ decimal v ∷ []
 
 abbrev pub outcome-fields : Outcome → List (List ℕ)
 outcome-fields (Drove d) = drive-word d ∷ []

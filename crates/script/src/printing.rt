@@ -9,7 +9,6 @@ use card::Refusal;
 use card::Reply;
 use rack::Outcome;
 use rack::Reached;
-use rack::SPURIOUS_VECTOR;
 
 fn show_reached(page: &mut Page, reached: Reached)
     requires { ⌜ size (now page) ≤ 20 ⌝ }
@@ -32,9 +31,9 @@ fn show_reached(page: &mut Page, reached: Reached)
                 }
             }
         }
-        Reached::Spurious => {
+        Reached::Spurious(vector) => {
             page.field(b"spurious");
-            page.number(SPURIOUS_VECTOR as u64);
+            page.number(vector as u64);
         }
     }
 }

@@ -20,7 +20,7 @@ fn a_line_has_80_bytes_at_most() -> Result<(), Fail> {
 fn faults_go_by_rising_number() -> Result<(), Fail> {
     check_eq(refused(b"line\t3\t1"), 0)?;
     check_eq(refused(b"line\t003\t01"), 0)?;
-    check_eq(refused(b"take\t1\t2\t3\t4"), 11)?;
+    check_eq(refused(b"bogus\t1\t2\t3\t4"), 11)?;
     check_eq(refused(b"line\tx"), 12)?;
     check_eq(refused(b"line\t256\t1"), 13)?;
     check_eq(refused(b"line\t1\t2"), 13)?;

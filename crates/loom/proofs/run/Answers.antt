@@ -19,7 +19,7 @@ made-map (Err e) P Q f h = tt
 pub returns : need.returns
 returns c =
     let s = c .args .script .now in
-    let st = ap₂ (λ f r. start 1 (record { }) (pair f r)) (c .new .ensures) (c .new-2 .ensures) in
+    let st = ap₂ (λ f r. start 1 (record {}) (pair f r)) (c .new .ensures) (c .new-2 .ensures) in
     made-map (c .run-script .result) _ (λ printed. LoomRan s (vec-items printed))
     (λ printed ran. let done : ScriptRan loom-parts loom-start s (vec-items printed) = subst (λ x. ScriptRan loom-parts x s (vec-items printed)) st ran in record { prints = done .prints; keeps = done .keeps no-edges })
     (c .run-script .ensures)

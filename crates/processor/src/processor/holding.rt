@@ -83,8 +83,7 @@ impl Processor {
         }
         match self.open_service() {
             Ok(level) => {
-                let mut token = token;
-                token.spent = true;
+                token.spend();
                 let service = ServiceToken {
                     number: self.number,
                     depth,
@@ -110,8 +109,7 @@ impl Processor {
         }
         match self.close_service(token.depth) {
             Ok(mask) => {
-                let mut token = token;
-                token.spent = true;
+                token.spend();
                 Ok(mask)
             }
             Err(fault) => Err(Refused { fault, token }),

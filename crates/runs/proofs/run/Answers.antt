@@ -24,11 +24,11 @@ loop-call-again g c =
     let y = view (c .step .last .self) in
     let rest = drop (i + 1) calls in (
       ap (λ z. end-of-run p z rest) (c .step .ensures .after)
-      ∙ sym (at-drop-more (end-of-run p x) calls i (Drive Local 0 false) (c .loop-call-test .taken))
-      ∙ c .loop-call .inv .0,
+          ∙ sym (at-drop-more (end-of-run p x) calls i (Drive Local 0 false) (c .loop-call-test .taken))
+          ∙ c .loop-call .inv .0,
       results-more p x y (getD calls i (Drive Local 0 false)) rest (vec-items (c .loop-call .results)) (vec-items (c .push .last .self)) (c .step .result) (c .step .ensures .result) (c .step .ensures .after) (c .in-Continue-push .ensures tt .items)
-      ∙ ap (λ l. vec-items (c .loop-call .results) ++ l) (sym (at-drop-more (results-of p x) calls i (Drive Local 0 false) (c .loop-call-test .taken)))
-      ∙ c .loop-call .inv .1,
+          ∙ ap (λ l. vec-items (c .loop-call .results) ++ l) (sym (at-drop-more (results-of p x) calls i (Drive Local 0 false) (c .loop-call-test .taken)))
+          ∙ c .loop-call .inv .1,
     )
 
 pub returns : need.returns
