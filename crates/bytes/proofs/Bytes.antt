@@ -1,15 +1,14 @@
 -- What the operators do to each bit, and when a number is the byte of a test.
-use mathlib.Core.Path.{_≡_, refl, sym, ap, ap₂, subst, _∙_}
+use mathlib.Core.Path.{_≡_, refl, sym, ap, ap₂, _∙_}
 use mathlib.Core.Bool.{Bool, true, false, not, cond, _&&_, _||_}
-use mathlib.Core.Logic.{_⊎_, inl, inr}
-use Prim.Native.Nat.{ℕ, zero, suc, _+_, _-_, _*_, _/_, _%_, _^_, _<_, _≤_}
+use Prim.Native.Nat.{ℕ, zero, suc, _-_, _*_, _/_, _%_, _^_, _<_, _≤_}
 use native.Mathlib.Omega.{arith}
 use lib.Dec.{T, eqb, eqb→eq, lit<}
 use lib.Bits.{bitAnd, bitOr, and-shr, or-shr, and-mod, or-mod}
 use Rattle.std.proofs.shelf.Bits.{mod-below}
 use Rattle.std.proofs.shelf.Tests.{ne-eqb}
 use Rattle.card.specs.Bits.{bit, bits-of}
-use Rattle.card.proofs.Bitwise.{bits-same, bits-none, bits-below, bit-of}
+use Rattle.card.proofs.Bitwise.{bits-same, bits-below, bit-of}
 use lib.Count.{leadingZeros}
 use Rattle.bytes.specs.Bytes.{byte, put, highest}
 use Rattle.bytes.proofs.Every.{every, at, same, same-eq}
@@ -83,22 +82,6 @@ set-bit x c h k = is-byte _ (λ t. cond (eqb t c) true (bit x t)) (lib.Bits.or-l
 pub clear-bit : (x c : ℕ) → x < 256 → c < 8 → bitAnd x (255 - (1 * 2 ^ c) % 256) ≡ put c false x
 clear-bit x c h k = is-byte _ (λ t. cond (eqb t c) false (bit x t)) (omega (arith, lib.Bits.and-le-l x (255 - (1 * 2 ^ c) % 256)))
     (λ t l. bit-and x (255 - (1 * 2 ^ c) % 256) t ∙ ap (λ b. bit x t && b) (bit-not ((1 * 2 ^ c) % 256) t (mask-below c) l ∙ ap not (mask-bit c t k l)) ∙ and-last (bit x t) (eqb t c))
-
-pub bit-zero : (c : ℕ) → c < 8 → bit 0 c ≡ false
-bit-zero c h = same-eq _ _ (at (λ c. same (bit 0 c) false) 8 tt c h)
-
-and-swap : (a b : Bool) → (a && b) ≡ (b && a)
-and-swap true true = refl
-and-swap true false = refl
-and-swap false true = refl
-and-swap false false = refl
-
--- a mask keeps the bits of which p holds, which is computed
-pub mask-of : (m : ℕ) (p : ℕ → Bool) → T (every (λ c. same (bit m c) (p c)) 8) → (c : ℕ) → c < 8 → bit m c ≡ p c
-mask-of m p t c h = same-eq _ _ (at (λ c. same (bit m c) (p c)) 8 t c h)
-
-pub masked : (m : ℕ) (p : ℕ → Bool) → T (every (λ c. same (bit m c) (p c)) 8) → (x : ℕ) → x < 256 → bitAnd x m ≡ byte (λ c. p c && bit x c)
-masked m p t x h = is-byte _ (λ c. p c && bit x c) (omega (arith, lib.Bits.and-le-l x m)) (λ c l. bit-and x m c ∙ ap (λ b. bit x c && b) (mask-of m p t c l) ∙ and-swap (bit x c) (p c))
 
 -- a byte keeps its bits where one past them is put
 pub put-past : (x n : ℕ) (on : Bool) → x < 256 → 8 ≤ n → x ≡ put n on x

@@ -1,18 +1,16 @@
 -- A loop over the sources that gathers the levels asked, and one that finds the source to answer.
 use mathlib.Core.Path.{_≡_, refl, sym, ap, ap₂, subst, _∙_}
-use mathlib.Core.Logic.{_⊎_, inl, inr}
-use mathlib.Core.Bool.{Bool, true, false, not, cond, _&&_, _||_}
-use Prim.Native.Nat.{ℕ, zero, suc, _+_, _-_, _<_, _≤_}
+use mathlib.Core.Logic.{inl, inr}
+use mathlib.Core.Bool.{Bool, true, false, cond, _&&_, _||_}
+use Prim.Native.Nat.{ℕ, suc, _+_, _-_, _<_, _≤_}
 use native.Mathlib.Omega.{arith}
 use native.Mathlib.Numerals.{add-one}
-use lib.Dec.{eqb, ltb}
-use Rattle.std.specs.declared.option.Option.{Option}
-use Rattle.std.specs.declared.option.Option.the-variants.{Some, None}
-use Rattle.std.specs.Options.{isSome}
-use Rattle.std.proofs.shelf.Tests.{cases-lt, cases-eq, both-ways, eq-eqb, ne-eqb, cases-bool}
-use Rattle.card.specs.Source.{Source, asking, asking-at, any-asks, Smallest, Nobody, Chosen, pick}
-use Rattle.card.specs.Bits.{bit, bits-of}
-use Rattle.card.proofs.Picks.{pick-chosen, picked, none-picked}
+use lib.Dec.{eqb}
+use Rattle.std.specs.declared.option.Option.the-variants.{Some}
+use Rattle.std.proofs.shelf.Tests.{cases-lt, cases-eq, both-ways, eq-eqb, ne-eqb}
+use Rattle.card.specs.Source.{Source, asking, asking-at, any-asks, pick}
+use Rattle.card.specs.Bits.{bit}
+use Rattle.card.proofs.Picks.{picked}
 use Rattle.card.proofs.Bitwise.{bits-same, bits-none}
 use Rattle.bytes.specs.Bytes.{byte, put}
 use Rattle.bytes.proofs.Bytes.{bit-byte}

@@ -1,5 +1,5 @@
 -- Bytes by their bits.
-use mathlib.Core.Bool.{Bool, _&&_, cond}
+use mathlib.Core.Bool.{Bool, cond}
 use Prim.Native.Nat.{ℕ, zero, suc}
 use lib.Dec.{eqb}
 use Rattle.card.specs.Bits.{bit, bits-of}

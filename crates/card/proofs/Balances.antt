@@ -1,27 +1,25 @@
 -- Each latched edge is answered, withdrawn or held still: one call, then any run.
 use mathlib.Core.Path.{_≡_, refl, sym, ap, subst, _∙_}
-use mathlib.Core.Logic.{_⊎_, inl, inr}
+use mathlib.Core.Logic.{inl, inr}
 use mathlib.Core.Bool.{Bool, true, false, cond, not, _&&_}
 use mathlib.Core.List.{List, [], _∷_}
-use Prim.Native.Nat.{ℕ, zero, suc, _+_, _-_, _<_, _≤_}
+use Prim.Native.Nat.{ℕ, _+_, _-_, _<_}
 use native.Mathlib.Omega.{arith}
 use lib.Dec.{ltb, eqb}
 use Rattle.std.specs.declared.option.Option.{Option}
 use Rattle.std.specs.declared.option.Option.the-variants.{Some, None}
-use Rattle.std.specs.declared.result.Result.{Result}
-use Rattle.std.specs.declared.result.Result.the-variants.{Ok, Err}
 use Rattle.std.proofs.shelf.Tests.{cases-lt, cases-eq, eq-eqb, ne-eqb, lt-ltb, le-ltb, both-ways}
 use Rattle.card.specs.declared.faults.CardFault.{CardFault}
 use Rattle.card.specs.declared.faults.CardFault.the-variants.{Oversize, NoSource}
 use Rattle.card.specs.Source.{Source, asking-at, Smallest, Chosen, pick}
-use Rattle.card.specs.Meaning.{Meaning, driving, with-wire, lost}
-use Rattle.card.specs.Model.{Model, source-of, unless-refused, changed-unless, oversize, size-first, register-first, drive-fault, drive-result, drive-exit, level-fault, write-fault, write-result, write-exit, withdrawn, answer-fault, answer-result, answer-exit, if-chosen, reply-of, reset-result, reset-exit}
-use Rattle.card.specs.Laws.{Lawful, DriveRule, WriteRule, AnswerRule, ResetRule, NoticeRule, Laws, NoticeLaw}
-use Rattle.card.specs.Withdrawing.{has, told}
+use Rattle.card.specs.Meaning.{driving, with-wire, lost}
+use Rattle.card.specs.Model.{Model, source-of, unless-refused, changed-unless, oversize, size-first, register-first, drive-result, drive-exit, write-fault, write-result, write-exit, withdrawn, answer-fault, answer-result, answer-exit, if-chosen, reply-of, reset-result, reset-exit}
+use Rattle.card.specs.Laws.{Laws, NoticeLaw}
+use Rattle.card.specs.Withdrawing.{has}
 use Rattle.card.specs.Runs.{Turn, turn-of, turns, end-of, one, count-of}
 use Rattle.card.specs.declared.calls.CardCall.{CardCall}
 use Rattle.card.specs.Edges.{gives, leaves, is-latched, latch, tells, names, by-source, latched-in, answered-in, withdrawn-in, holds, EdgesKept}
-use Rattle.card.proofs.Picks.{pick-chosen, chosen-by}
+use Rattle.card.proofs.Picks.{pick-chosen}
 use Rattle.card.proofs.Withdrawals.{has-told}
 
 -- any run: what each turn balances, the run does

@@ -1,15 +1,14 @@
 -- Numbers made of bits.
 use mathlib.Core.Path.{_≡_, refl, sym, ap, subst, _∙_}
-use mathlib.Core.Logic.{_⊎_, inl, inr}
+use mathlib.Core.Logic.{inl, inr}
 use mathlib.Core.Bool.{Bool, true, false, cond, _||_}
 use Prim.Native.Nat.{ℕ, zero, suc, _+_, _-_, _*_, _/_, _%_, _^_, _<_, _≤_}
 use native.Mathlib.Omega.{arith}
-use native.Mathlib.Nat.{pow-suc, add-suc, add-zero, mul-assoc, add-mul, add-comm, mul-comm, mod-eq-of-lt, div-eq-of-lt, lt-of-lt-of-le}
-use native.Mathlib.Numerals.{add-one}
-use lib.Dec.{ltb, eqb}
+use native.Mathlib.Nat.{pow-suc, add-suc, add-zero, mul-assoc, add-mul, mul-comm, mod-eq-of-lt, div-eq-of-lt, lt-of-lt-of-le}
+use lib.Dec.{eqb}
 use lib.Bits.{bitAnd, bitOr, or-block, and-mask}
-use Rattle.std.proofs.shelf.Tests.{cases-lt, both-ways, ltb-true, ltb-false}
-use Rattle.std.proofs.shelf.Bits.{pow-pos, pow-add, shr-high, mod-low, field-of, mul-le, one-shl}
+use Rattle.std.proofs.shelf.Tests.{cases-lt}
+use Rattle.std.proofs.shelf.Bits.{pow-add, shr-high, mod-low, field-of, mul-le}
 use lib.Pow.{mod-mod-pow, pow-mono}
 use Rattle.card.specs.Bits.{bit, bits-of}
 

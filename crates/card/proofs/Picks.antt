@@ -1,13 +1,12 @@
 -- `pick` finds the source of smallest rank, and there is one such at most: for all ranks.
-use mathlib.Core.Path.{_≡_, refl, sym, ap, ap₂, subst, _∙_}
-use mathlib.Core.Logic.{_⊎_, inl, inr}
+use mathlib.Core.Path.{_≡_, refl, ap, ap₂, subst}
+use mathlib.Core.Logic.{inl, inr}
 use mathlib.Core.Bool.{Bool, true, false, cond, _||_}
-use Prim.Native.Nat.{ℕ, zero, suc, _+_, _-_, _<_, _≤_}
+use Prim.Native.Nat.{ℕ, zero, suc, _-_, _<_, _≤_}
 use native.Mathlib.Omega.{arith}
-use lib.Dec.{ltb, eqb}
+use lib.Dec.{ltb}
 use Rattle.std.specs.declared.option.Option.{Option}
 use Rattle.std.specs.declared.option.Option.the-variants.{Some, None}
-use Rattle.std.specs.Options.{isSome}
 use Rattle.std.proofs.shelf.Tests.{cases-lt, cases-eq, both-ways, ltb-true, ltb-false}
 use Rattle.card.specs.Source.{Source, asking-at, Smallest, Nobody, Chosen, any-asks, better, pick}
 
@@ -95,10 +94,3 @@ any-some f n (suc k) s h e = elim (cases-eq s k) [
     go : (a b : Bool) → b ≡ true → (a || b) ≡ true
     go true b h = refl
     go false b h = h
-
-pub any-pick : (f : ℕ → Source) (n k : ℕ) → any-asks f k n ≡ isSome (pick f n k)
-any-pick f n k = go (pick f n k) (pick-chosen f n k)
-  where
-    go : (o : Option ℕ) → Chosen f n k o → any-asks f k n ≡ isSome o
-    go None c = any-none f n k c
-    go (Some s) c = any-some f n k s (c .within) (c .asks)

@@ -1,5 +1,5 @@
 -- The sources told of a test: alone, and of two tests one above the other.
-use mathlib.Core.Path.{_≡_, refl, sym, ap, ap₂, _∙_}
+use mathlib.Core.Path.{_≡_, sym, ap, _∙_}
 use mathlib.Core.Bool.{Bool, false}
 use Prim.Native.Nat.{ℕ, _+_, _-_, _*_, _%_, _^_, _<_, _≤_}
 use native.Mathlib.Omega.{arith}
@@ -9,7 +9,7 @@ use Rattle.std.proofs.shelf.Bits.{shl-whole, pow-add}
 use Rattle.card.specs.declared.withdrawn.Withdrawn.{Withdrawn}
 use Rattle.card.specs.Bits.{bits-of}
 use Rattle.card.specs.Withdrawing.{told, has, nobody, shifted, union}
-use Rattle.card.proofs.Bitwise.{bits-below, bits-same, bits-none, bits-join, bit-of}
+use Rattle.card.proofs.Bitwise.{bits-below, bits-none, bits-join, bit-of}
 
 stored : ℕ → Withdrawn
 stored n = record { bits = n }
@@ -22,10 +22,6 @@ has-told p k s h = bit-of p k s h
 pub told-none : (p : ℕ → Bool) (k : ℕ) → ((s : ℕ) → s < k → p s ≡ false) → nobody ≡ told p k
 unfolding told nobody stored
 told-none p k h = ap stored (sym (bits-none p k h))
-
-pub told-same : (p q : ℕ → Bool) (k : ℕ) → ((s : ℕ) → s < k → p s ≡ q s) → told p k ≡ told q k
-unfolding told stored
-told-same p q k h = ap stored (bits-same p q k h)
 
 -- r is p below k, and q from k on
 module _ (p q r : ℕ → Bool) (k l : ℕ) (front : (s : ℕ) → s < k → r s ≡ p s) (rear : (s : ℕ) → s < l → r (k + s) ≡ q s) where

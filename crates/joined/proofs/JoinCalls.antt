@@ -1,30 +1,27 @@
 -- What each call of two joined cards gives and leaves.
-use mathlib.Core.Path.{_≡_, refl, sym, ap, ap₂, subst, _∙_}
-use mathlib.Core.Logic.{_⊎_, inl, inr}
-use mathlib.Core.Bool.{Bool, true, false, cond, not, _&&_, _||_}
-use Prim.Native.Nat.{ℕ, zero, suc, _+_, _-_, _*_, _%_, _^_, _<_, _≤_}
+use mathlib.Core.Path.{_≡_, refl, sym, ap, ap₂, _∙_}
+use mathlib.Core.Logic.{inl, inr}
+use mathlib.Core.Bool.{Bool, true, false, not, _&&_, _||_}
+use Prim.Native.Nat.{ℕ, zero, suc, _+_, _-_, _<_, _≤_}
 use native.Mathlib.Omega.{arith}
 use native.Mathlib.Nat.{add-zero, add-suc}
-use lib.Dec.{ltb}
 use lib.Bits.{bitOr}
 use Rattle.std.specs.declared.option.Option.{Option}
 use Rattle.std.specs.declared.option.Option.the-variants.{Some, None}
 use Rattle.std.specs.declared.result.Result.{Result}
 use Rattle.std.specs.declared.result.Result.the-variants.{Ok, Err}
-use Rattle.std.specs.Options.{isSome}
 use Rattle.std.proofs.shelf.Tests.{cases-lt, lt-ltb, le-ltb, both-ways}
 use Rattle.card.specs.declared.faults.CardFault.{CardFault}
 use Rattle.card.specs.declared.faults.CardFault.the-variants.{Oversize, NoSource, NoRegister, NoAccess, BadLevel, NoControl}
-use Rattle.card.specs.declared.outcomes.Driven.{Driven}
 use Rattle.card.specs.declared.outcomes.Answer.{Answer}
 use Rattle.card.specs.declared.withdrawn.Withdrawn.{Withdrawn}
 use Rattle.joined.specs.declared.Joined.{Joined}
 use Rattle.card.specs.Source.{Source, asking-at, any-asks, Chosen, pick}
-use Rattle.card.specs.Withdrawing.{told, shifted, union}
+use Rattle.card.specs.Withdrawing.{shifted, union}
 use Rattle.card.specs.Meaning.{Meaning, driving, lost}
-use Rattle.card.specs.Model.{Model, source-of, unless-refused, changed-unless, oversize, size-first, read-result, level-fault, reply-of, if-chosen, withdrawn, drive-result, drive-exit, write-result, write-exit, answer-result, answer-exit, reset-result, reset-exit, levels-asked}
+use Rattle.card.specs.Model.{Model, source-of, unless-refused, changed-unless, oversize, read-result, level-fault, reply-of, if-chosen, withdrawn, drive-result, drive-exit, write-result, write-exit, answer-result, answer-exit, reset-result, reset-exit, levels-asked}
 use Rattle.card.specs.Laws.{Own, Laws}
-use Rattle.joined.specs.Joining.{behind, source-named, register-named, refusal-behind, result-behind, joined, raised, both, pair, join, answered-by}
+use Rattle.joined.specs.Joining.{behind, source-named, register-named, refusal-behind, joined, raised, both, pair, join, answered-by}
 use Rattle.card.proofs.Picks.{pick-chosen}
 use Rattle.card.proofs.Bitwise.{bits-or, bits-same}
 use Rattle.card.proofs.Withdrawals.{told-front, told-rear, told-both}
@@ -147,13 +144,6 @@ module _ {F R : Type 0} (a : Model F) (b : Model R) (x : Joined F R) where
       go (Some d) (Ok w) all p q u = let no-way : _≡_ {A = ℕ} 0 1 = cc in absurd (omega arith)
       go (Some d) (Err c) (Ok z) p q u = absurd u
       go (Some d) (Err c) (Err g) p q u = let same : c ≡ d = cc in (ap Err (u ∙ ap₂ (λ k j. behind k j c) e f ∙ ap (behind (a .sources) (a .registers)) same), ap (pair (x .front)) q)
-
-  pub read-front : (r l : ℕ) → Fits a b → r < a .registers → read-result a (x .front) r l ≡ read-result (join a b) x r l
-  read-front r l h lt = rw (fits-both h, fits-front h, lt-ltb r (a .registers + b .registers) (omega arith), lt-ltb r (a .registers) lt)
-
-  pub read-rear : (r l i : ℕ) → Fits a b → a .registers ≤ r → r < a .registers + b .registers → i ≡ a .registers
-      → result-behind (a .sources) (a .registers) (read-result b (x .rear) (r - i) l) ≡ read-result (join a b) x r l
-  read-rear r l i h le lt e = rw (e, fits-both h, fits-rear h, lt-ltb r (a .registers + b .registers) lt, lt-ltb (r - a .registers) (b .registers) (omega arith), le-ltb r (a .registers) le)
 
   -- what the rear itself refuses names no number past its own registers
   pub own-named : (r : ℕ) (e : CardFault) → Own r e → (source-named e ≡ 0) × (register-named e ≤ r)

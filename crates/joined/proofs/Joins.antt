@@ -1,6 +1,6 @@
 -- Two cards joined keep the card rules.
 use mathlib.Core.Path.{_≡_, refl, sym, ap, subst, _∙_}
-use mathlib.Core.Logic.{_⊎_, inl, inr}
+use mathlib.Core.Logic.{inl, inr}
 use mathlib.Core.Bool.{Bool, true, false, cond}
 use Prim.Native.Nat.{ℕ, _+_, _-_, _<_, _≤_}
 use native.Mathlib.Omega.{arith}
@@ -13,18 +13,12 @@ use Rattle.std.proofs.shelf.Tests.{cases-lt, lt-ltb, le-ltb, both-ways}
 use Rattle.card.specs.declared.faults.CardFault.{CardFault}
 use Rattle.card.specs.declared.faults.CardFault.the-variants.{Oversize, NoSource, NoRegister, NoAccess, BadLevel, NoControl}
 use Rattle.joined.specs.declared.Joined.{Joined}
-use Rattle.card.specs.Source.{Source, asking-at, Smallest, Nobody, Chosen, pick}
+use Rattle.card.specs.Source.{Source, asking-at, Smallest, Chosen, pick}
 use Rattle.card.specs.Meaning.{Meaning, with-wire, fault-of}
 use Rattle.card.specs.Model.{Model, source-of}
 use Rattle.card.specs.Laws.{Lawful, Own, Refusing, DriveRule, WriteRule, AnswerRule, ResetRule, Stays, Laws}
 use Rattle.joined.specs.Joining.{behind, refusal-behind, result-behind, joined, raised, both, pair, join, answered-by}
-use Rattle.card.proofs.Picks.{pick-chosen, chosen-unique, chosen-by}
-
-pub front-source : (k s : ℕ) (f r : ℕ → Source) → s < k → both k f r s ≡ f s
-front-source k s f r h = rw (lt-ltb s k h)
-
-pub rear-source : (k s : ℕ) (f r : ℕ → Source) → k ≤ s → both k f r s ≡ raised k (r (s - k))
-rear-source k s f r h = rw (le-ltb s k h)
+use Rattle.card.proofs.Picks.{pick-chosen, chosen-unique}
 
 -- what holds of each source of both sides, by sides
 by-sides : (k l : ℕ) (f r : ℕ → Source) (P : ℕ → Source → Type 0) → ((s : ℕ) → s < k → P s (f s)) → ((s : ℕ) → s < l → P (s + k) (raised k (r s))) → (s : ℕ) → s < k + l → P s (both k f r s)

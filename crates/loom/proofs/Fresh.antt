@@ -1,9 +1,8 @@
 -- A new rack holds no edge.
 use mathlib.Core.Path.{_≡_, refl}
 use mathlib.Core.Bool.{Bool, true, false, cond}
-use Prim.Native.Nat.{ℕ, _-_, _<_}
+use Prim.Native.Nat.{_-_}
 use lib.Dec.{ltb}
-use native.Mathlib.Omega.{arith}
 use Rattle.mc68153.specs.Sheet.{fresh, source-at}
 use Rattle.rack.specs.declared.calls.Side.the-variants.{Local, Chain}
 use Rattle.joined.specs.Joining.{raised}

@@ -2,12 +2,11 @@
 use mathlib.Core.Path.{_≡_, refl, sym, ap, subst, _∙_}
 use mathlib.Core.Logic.{inl, inr}
 use mathlib.Core.Bool.{Bool, true, false, cond}
-use Prim.Native.Nat.{ℕ, zero, suc, _-_, _<_, _≤_}
+use Prim.Native.Nat.{ℕ, zero, suc, _-_, _<_}
 use native.Mathlib.Omega.{arith}
 use lib.Dec.{eqb, ltb}
 use Rattle.std.proofs.shelf.Tests.{cases-eq, eq-eqb, ne-eqb, both-ways}
 use Rattle.card.specs.declared.outcomes.Reply.the-variants.{Byte, Outside}
-use Rattle.card.specs.Source.{Source, pick}
 use Rattle.card.specs.Bits.{bit}
 use Rattle.card.specs.Meaning.{with-wire}
 use Rattle.card.specs.Model.{served}

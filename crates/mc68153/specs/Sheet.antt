@@ -1,6 +1,6 @@
 -- The MC68153: four level inputs, 0 to 3. Registers 0 to 3 are their control registers, 4 to 7 their vector registers.
-use mathlib.Core.Bool.{Bool, true, false, cond}
-use mathlib.Core.List.{List, [], _∷_}
+use mathlib.Core.Bool.{Bool, false, cond}
+use mathlib.Core.List.{[], _∷_}
 use Prim.Native.Nat.{ℕ, _-_}
 use lib.Dec.{eqb, ltb}
 use lib.ListN.{getD}
@@ -10,7 +10,6 @@ use Rattle.card.specs.declared.outcomes.Reply.{Reply}
 use Rattle.card.specs.declared.outcomes.Reply.the-variants.{Byte, Outside}
 use Rattle.card.specs.Source.{Source, pick}
 use Rattle.card.specs.Bits.{bit, bits-of}
-use Rattle.card.specs.Meaning.{Meaning}
 use Rattle.card.specs.Model.{Model, served}
 use Rattle.bytes.specs.Bytes.{put}
 use Rattle.mc68153.specs.declared.Input.{Input}

@@ -1,10 +1,8 @@
 -- The plain handler keeps the rules of a card, and of a handler.
-use mathlib.Core.Path.{_≡_, refl}
-use Prim.Native.Nat.{ℕ}
 use native.Mathlib.Omega.{arith}
 use lib.Dec.{leb}
 use Rattle.std.proofs.shelf.Tests.{and-parts, leb-true}
-use Rattle.card.specs.Laws.{Laws, NoticeLaw}
+use Rattle.card.specs.Laws.{Laws}
 use Rattle.plain.specs.Sheet.{plain-model}
 
 pub plain-laws : Laws plain-model
@@ -22,6 +20,3 @@ plain-laws = record {
   answers = λ x n s h. absurd (omega (arith, h .within));
   resets = λ x. record { wires = λ t h. absurd (omega arith); none-held = λ t h. absurd (omega arith) };
 }
-
-pub plain-notices : NoticeLaw plain-model (λ x n. x)
-plain-notices x n = record { sources = λ t h. refl; marks = λ n. refl }

@@ -1,5 +1,4 @@
 // The plain handler: no sources and no registers; it admits every level.
-ghost use mathlib.Core.Path.{_≡_};
 ghost use Rattle.plain.specs.Sheet.{plain-model};
 use card::Answer;
 use card::Card;

@@ -1,5 +1,5 @@
 -- Each call does one of four things to a processor; from that alone, what holds over every run of any machine that has one.
-use mathlib.Core.Path.{_≡_, refl, sym, ap, subst, _∙_}
+use mathlib.Core.Path.{_≡_, refl, sym, ap, _∙_}
 use mathlib.Core.Bool.{Bool, true, false, cond}
 use mathlib.Core.List.{List, [], _∷_, map}
 use Prim.Native.Nat.{ℕ, _+_}
@@ -17,11 +17,11 @@ use Rattle.processor.specs.declared.state.State.the-variants.{Idle, Taken}
 use Rattle.processor.specs.declared.state.ProcessorCall.{ProcessorCall}
 use Rattle.processor.specs.declared.state.ProcessorCall.the-variants.{Take, Acknowledge, Return, Mask, Reset}
 use Rattle.processor.specs.declared.state.Done.{Done}
-use Rattle.processor.specs.declared.state.Done.the-variants.{Took, Opened, Returned, Masked, WasReset}
+use Rattle.processor.specs.declared.state.Done.the-variants.{Took, Returned, Masked}
 use Rattle.processor.specs.declared.state.ProcessorFault.{ProcessorFault}
 use Rattle.processor.specs.declared.state.ProcessorFault.the-variants.{BadMask, NotInnermost, Full}
-use Rattle.processor.specs.Steps.{Proc, proc, rest-of, above, take-gives, return-gives, reset-gives, mask-gives, after, gives, leaves}
-use Rattle.processor.specs.Events.{Event, Entry, took, opened, returned, other, is-took, is-opened, is-returned, level-after, masks-after, noted, PutsBack, is-taken, ProcessorKeeps, entry, log-of, did, own-log}
+use Rattle.processor.specs.Steps.{Proc, proc, take-gives, return-gives, reset-gives, after, gives, leaves}
+use Rattle.processor.specs.Events.{Event, took, opened, returned, other, is-took, is-opened, is-returned, level-after, masks-after, noted, PutsBack, is-taken, ProcessorKeeps, entry, log-of, did}
 
 pub data Shape (p q : Proc) : Event → Type 0 where
   stays : q .state ≡ p .state → q .services ≡ p .services → Shape p q other

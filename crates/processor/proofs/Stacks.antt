@@ -1,5 +1,5 @@
 -- The masks of the open services.
-use mathlib.Core.Path.{_≡_, refl, sym, ap, ap₂, subst, _∙_}
+use mathlib.Core.Path.{_≡_, refl, ap, ap₂, subst, _∙_}
 use mathlib.Core.Logic.{_≢_}
 use mathlib.Core.List.{List, [], _∷_}
 use Prim.Native.Nat.{ℕ, zero, suc, _+_, _-_, _<_, _≤_}
@@ -8,10 +8,8 @@ use native.Mathlib.Numerals.{add-one}
 use lib.ListN.{length, getD, set}
 use lib.Seq.{getD-set-same, getD-set-other}
 use Rattle.std.proofs.shelf.Tests.{lt-ltb, le-ltb, eq-eqb, ne-eqb}
-use Rattle.std.specs.declared.result.Result.{Result}
 use Rattle.std.specs.declared.result.Result.the-variants.{Ok, Err}
 use Rattle.processor.specs.declared.state.State.the-variants.{Idle, Taken}
-use Rattle.processor.specs.declared.state.Done.{Done}
 use Rattle.processor.specs.declared.state.Done.the-variants.{Took, Opened, Returned, WasReset}
 use Rattle.processor.specs.declared.state.ProcessorCall.{ProcessorCall}
 use Rattle.processor.specs.declared.state.ProcessorCall.the-variants.{Acknowledge}

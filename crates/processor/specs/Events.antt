@@ -8,7 +8,7 @@ use Rattle.std.specs.declared.option.Option.{Option}
 use Rattle.std.specs.declared.option.Option.the-variants.{Some, None}
 use Rattle.std.specs.declared.result.Result.{Result}
 use Rattle.std.specs.declared.result.Result.the-variants.{Ok, Err}
-use Rattle.card.specs.Runs.{Turn, turns, end-of, one, count-of, Along}
+use Rattle.card.specs.Runs.{Turn, turns, one, count-of, Along}
 use Rattle.processor.specs.declared.state.State.{State}
 use Rattle.processor.specs.declared.state.State.the-variants.{Idle, Taken}
 use Rattle.processor.specs.declared.state.ProcessorCall.{ProcessorCall}

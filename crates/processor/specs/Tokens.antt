@@ -1,6 +1,5 @@
 -- Tokens: what a take hands out, and what acknowledge and return take back.
 use mathlib.Core.Bool.{Bool, false, _&&_, cond}
-use mathlib.Core.List.{List}
 use Prim.Native.Nat.{ℕ, suc}
 use lib.Dec.{eqb}
 use lib.ListN.{length}
@@ -10,7 +9,6 @@ use Rattle.std.specs.declared.result.Result.{Result}
 use Rattle.std.specs.declared.result.Result.the-variants.{Ok, Err}
 use Rattle.processor.specs.declared.state.State.{State}
 use Rattle.processor.specs.declared.state.State.the-variants.{Idle, Taken}
-use Rattle.processor.specs.declared.state.ProcessorCall.{ProcessorCall}
 use Rattle.processor.specs.declared.state.ProcessorCall.the-variants.{Take, Acknowledge, Return}
 use Rattle.processor.specs.declared.state.Done.{Done}
 use Rattle.processor.specs.declared.state.Done.the-variants.{Took, Opened, Returned, Masked, WasReset}

@@ -1,5 +1,5 @@
 ghost use mathlib.Core.Path.{_≡_};
-ghost use mathlib.Core.Bool.{true, false};
+ghost use mathlib.Core.Bool.{true};
 
 /// The right to acknowledge a level that was taken. It bears the number of the processor that handed it out and the depth of the
 /// service to come, and must be handed in: only a spent token may be let go.

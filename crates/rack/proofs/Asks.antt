@@ -1,21 +1,20 @@
 -- What a side of a rack answers at a level.
-use mathlib.Core.Path.{_≡_, refl, sym, ap, subst, _∙_}
+use mathlib.Core.Path.{_≡_, refl, sym, ap, _∙_}
 use mathlib.Core.Logic.{inl, inr}
 use mathlib.Core.Bool.{Bool, true, false, not, cond, _&&_}
-use Prim.Native.Nat.{ℕ, _≤_, _<_}
+use Prim.Native.Nat.{ℕ, _≤_}
 use native.Mathlib.Omega.{arith}
 use lib.Dec.{eqb, leb}
 use Rattle.std.proofs.shelf.Tests.{cases-bool, both-ways, and-parts, and-from, le-leb, eqb-true, eqb-false, not-true}
 use Rattle.std.specs.declared.option.Option.{Option}
 use Rattle.std.specs.declared.option.Option.the-variants.{Some, None}
-use Rattle.std.specs.declared.result.Result.{Result}
 use Rattle.std.specs.declared.result.Result.the-variants.{Ok, Err}
 use Rattle.card.specs.declared.faults.CardFault.{CardFault}
 use Rattle.card.specs.declared.faults.CardFault.the-variants.{BadLevel}
 use Rattle.card.specs.declared.outcomes.Answer.{Answer}
 use Rattle.card.specs.Source.{Source, asking, asking-at, Nobody, pick}
 use Rattle.card.specs.Meaning.{Meaning}
-use Rattle.card.specs.Model.{Model, source-of, oversize, unless-refused, changed-unless, size-first, level-fault, reply-of, if-chosen, answer-result, answer-exit}
+use Rattle.card.specs.Model.{Model, source-of, oversize, unless-refused, changed-unless, reply-of, if-chosen, answer-result, answer-exit}
 use Rattle.card.specs.Laws.{Lawful, Laws}
 use Rattle.card.proofs.Picks.{none-picked}
 

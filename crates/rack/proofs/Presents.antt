@@ -1,13 +1,13 @@
 -- The levels that are wanted, as bytes.
 use mathlib.Core.Path.{_≡_, refl, sym, ap, ap₂, subst, _∙_}
 use mathlib.Core.Logic.{inl, inr}
-use mathlib.Core.Bool.{Bool, true, false, cond, _&&_, _||_}
-use Prim.Native.Nat.{ℕ, _+_, _≤_, _<_}
+use mathlib.Core.Bool.{Bool, false, cond, _&&_, _||_}
+use Prim.Native.Nat.{ℕ, _+_, _≤_}
 use native.Mathlib.Omega.{arith}
 use lib.Dec.{eqb, ltb}
 use lib.Bits.{bitAnd, bitOr}
-use Rattle.std.proofs.shelf.Tests.{cases-bool, cases-eq, cases-order, both-ways, lt-ltb, le-ltb, eq-eqb, ne-eqb}
-use Rattle.card.specs.Bits.{bit, bits-of}
+use Rattle.std.proofs.shelf.Tests.{cases-eq, cases-order, lt-ltb, le-ltb, eq-eqb, ne-eqb}
+use Rattle.card.specs.Bits.{bit}
 use Rattle.card.proofs.Bitwise.{bits-or, bits-same, bits-none}
 use Rattle.bytes.specs.Bytes.{byte, put, highest}
 use Rattle.bytes.proofs.Bytes.{bit-byte, highest-same, and-byte}

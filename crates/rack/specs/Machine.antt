@@ -11,7 +11,6 @@ use Rattle.card.specs.declared.outcomes.Answer.{Answer}
 use Rattle.card.specs.Source.{Source, any-asks, pick}
 use Rattle.card.specs.Model.{Model, source-of, oversize, drive-result, drive-exit, read-result, write-result, write-exit, withdrawn, levels-asked}
 use Rattle.bytes.specs.Bytes.{highest}
-use Rattle.processor.specs.declared.state.ProcessorCall.{ProcessorCall}
 use Rattle.processor.specs.declared.state.ProcessorCall.the-variants.{Take as TakeIt, Acknowledge as AcknowledgeIt, Return as ReturnIt, Mask as MaskIt, Reset as ResetIt}
 use Rattle.processor.specs.declared.state.Done.{Done}
 use Rattle.processor.specs.declared.state.Done.the-variants.{Took as DoneTook, Opened, Returned as DoneReturned, Masked as DoneMasked, WasReset}

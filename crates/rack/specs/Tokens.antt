@@ -12,7 +12,6 @@ use Rattle.processor.specs.declared.tokens.ServiceToken.{ServiceToken}
 use Rattle.processor.specs.declared.tokens.Refused.{Refused}
 use Rattle.processor.specs.Steps.{Proc, gives}
 use Rattle.processor.specs.Tokens.{refused, token-take, token-acknowledge, token-acknowledge-leaves, token-return, token-return-leaves}
-use Rattle.rack.specs.declared.calls.Side.the-variants.{Local, Chain}
 use Rattle.rack.specs.declared.calls.Reached.{Reached}
 use Rattle.rack.specs.declared.faults.RackFault.{RackFault}
 use Rattle.rack.specs.declared.faults.RackFault.the-variants.{Card, Processor}

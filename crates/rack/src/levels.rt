@@ -1,6 +1,5 @@
 // The presented level.
 ghost use mathlib.Core.Path.{_≡_};
-ghost use Prim.Native.Nat.{_≤_};
 ghost use Rattle.bytes.specs.Bytes.{byte};
 ghost use Rattle.rack.specs.Machine.{parts, view, admitted, wants, presented};
 use crate::rack::Rack;

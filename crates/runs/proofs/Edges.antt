@@ -1,5 +1,5 @@
 -- Each call of a rack balances the edges of every source of either side.
-use mathlib.Core.Path.{_≡_, refl, sym, ap, _∙_}
+use mathlib.Core.Path.{_≡_, refl, sym, ap}
 use mathlib.Core.Bool.{Bool, true, false, cond, _&&_}
 use mathlib.Core.List.{List}
 use Prim.Native.Nat.{ℕ, _+_, _<_}
@@ -13,7 +13,7 @@ use Rattle.card.specs.declared.faults.CardFault.{CardFault}
 use Rattle.card.specs.declared.faults.CardFault.the-variants.{Oversize}
 use Rattle.card.specs.declared.outcomes.Driven.{Driven}
 use Rattle.card.specs.declared.withdrawn.Withdrawn.{Withdrawn}
-use Rattle.card.specs.Source.{Chosen, pick}
+use Rattle.card.specs.Source.{Chosen}
 use Rattle.card.specs.Model.{source-of, drive-result, write-result, read-result}
 use Rattle.card.specs.Laws.{Laws, NoticeLaw}
 use Rattle.card.specs.Runs.{turns, end-of, one, count-of}

@@ -1,16 +1,14 @@
 -- The law over every run.
 use mathlib.Core.Path.{_≡_, refl, sym, ap, subst, _∙_}
-use mathlib.Core.Bool.{Bool, true, false, cond}
 use mathlib.Core.List.{List, [], _∷_, _++_, append-assoc}
-use Prim.Native.Nat.{ℕ, _+_, _<_}
+use Prim.Native.Nat.{ℕ, _+_}
 use native.Mathlib.Omega.{arith}
 use Rattle.std.specs.declared.option.Option.{Option}
 use Rattle.std.specs.declared.option.Option.the-variants.{Some, None}
 use Rattle.std.specs.declared.result.Result.{Result}
 use Rattle.std.specs.declared.result.Result.the-variants.{Ok, Err}
 use Rattle.card.specs.declared.faults.CardFault.{CardFault}
-use Rattle.card.specs.declared.faults.CardFault.the-variants.{Oversize}
-use Rattle.card.specs.Model.{Model, unless-refused, changed-unless, size-first, drive-fault, drive-result, drive-exit, write-fault, write-result, write-exit}
+use Rattle.card.specs.Model.{unless-refused, changed-unless, drive-fault, write-fault}
 use Rattle.card.specs.Laws.{Laws, NoticeLaw}
 use Rattle.card.specs.Runs.{Turn, turn-of, turns, one, Every, Along}
 use Rattle.processor.specs.declared.state.Done.{Done}
@@ -18,19 +16,17 @@ use Rattle.processor.specs.declared.state.Done.the-variants.{Took as DoneTook, 
 use Rattle.processor.specs.declared.state.ProcessorFault.{ProcessorFault}
 use Rattle.processor.specs.declared.state.ProcessorCall.{ProcessorCall}
 use Rattle.processor.specs.declared.state.ProcessorCall.the-variants.{Take as TakeIt, Acknowledge as AcknowledgeIt, Return as ReturnIt, Mask as MaskIt, Reset as ResetIt}
-use Rattle.processor.specs.Steps.{Proc, gives, leaves, after}
+use Rattle.processor.specs.Steps.{gives, leaves, after}
 use Rattle.processor.specs.Events.{Event, other, level-after, did}
 use Rattle.processor.proofs.Shapes.{Shape, stays, call-shape, level-in, level-kept, machine-keeps}
-use Rattle.rack.specs.declared.calls.Side.{Side}
 use Rattle.rack.specs.declared.calls.Side.the-variants.{Local, Chain}
 use Rattle.rack.specs.declared.calls.Call.{Call}
 use Rattle.rack.specs.declared.calls.Call.the-variants.{Drive, Read, Write, Mask, Take, Acknowledge, Return, Reset}
 use Rattle.rack.specs.declared.calls.Outcome.{Outcome}
 use Rattle.rack.specs.declared.calls.Outcome.the-variants.{Drove, Showed, Withdrew}
 use Rattle.rack.specs.declared.faults.RackFault.{RackFault}
-use Rattle.rack.specs.declared.faults.RackFault.the-variants.{Card, Processor}
 use Rattle.rack.specs.Machine.{Parts, State, start, presented, of-card, done-gives, done-leaves, fit-gives, fit-leaves, rack-gives, rack-leaves, with-handler, with-chain}
-use Rattle.runs.specs.Turns.{RackTurn, event-of, event, turns-of, results-of}
+use Rattle.runs.specs.Turns.{event-of, event, results-of}
 use Rattle.runs.specs.Law.{AcknowledgeRight, TakeRight, RefusedWhole, RunKeeps, NoEdges}
 use Rattle.runs.proofs.Edges.{by-size, run-balance}
 use Rattle.runs.proofs.Rights.{acknowledge-right}

@@ -1,24 +1,24 @@
 -- A granted acknowledge is answered rightly, and no other source loses an edge by it.
-use mathlib.Core.Path.{_≡_, refl, sym, ap, subst, _∙_}
+use mathlib.Core.Path.{_≡_, refl, sym, subst, _∙_}
 use mathlib.Core.Bool.{Bool, true, false}
 use Prim.Native.Nat.{ℕ, _<_}
 use native.Mathlib.Omega.{arith}
 use Rattle.std.specs.declared.option.Option.{Option}
 use Rattle.std.specs.declared.option.Option.the-variants.{Some, None}
 use Rattle.std.specs.declared.result.Result.{Result}
-use Rattle.std.specs.declared.result.Result.the-variants.{Ok, Err}
+use Rattle.std.specs.declared.result.Result.the-variants.{Ok}
 use Rattle.std.proofs.shelf.Tests.{both-ways}
-use Rattle.card.specs.Source.{Chosen, pick}
+use Rattle.card.specs.Source.{Chosen}
 use Rattle.card.specs.Model.{source-of}
 use Rattle.card.specs.Laws.{Laws, NoticeLaw}
-use Rattle.card.specs.Runs.{Turn, turn-of}
+use Rattle.card.specs.Runs.{turn-of}
 use Rattle.card.proofs.Picks.{pick-chosen}
 use Rattle.card.proofs.Balances.{only-answerer, none-by-notice}
 use Rattle.processor.specs.declared.state.State.{State as Stage}
 use Rattle.processor.specs.declared.state.State.the-variants.{Idle, Taken}
 use Rattle.processor.specs.declared.state.Done.the-variants.{Opened}
 use Rattle.processor.specs.declared.state.ProcessorCall.the-variants.{Acknowledge as AcknowledgeIt}
-use Rattle.processor.specs.Steps.{Proc, gives-in, gives}
+use Rattle.processor.specs.Steps.{Proc, gives-in}
 use Rattle.processor.proofs.Shapes.{level-in}
 use Rattle.rack.specs.declared.calls.Side.{Side}
 use Rattle.rack.specs.declared.calls.Side.the-variants.{Local, Chain}

@@ -1,14 +1,13 @@
 -- A take that is not refused gives the presented level if that is above the mask.
-use mathlib.Core.Path.{_≡_, refl, sym, ap, subst, _∙_}
+use mathlib.Core.Path.{_≡_, refl, ap, subst, _∙_}
 use mathlib.Core.Logic.{_⊎_, inl, inr}
 use mathlib.Core.Bool.{Bool, true, false, cond, _||_, _&&_}
 use Prim.Native.Nat.{ℕ, zero, suc, _<_, _≤_}
 use native.Mathlib.Omega.{arith}
 use lib.Dec.{ltb}
 use lib.ListN.{length}
-use Rattle.std.specs.declared.result.Result.{Result}
 use Rattle.std.specs.declared.result.Result.the-variants.{Ok, Err}
-use Rattle.std.proofs.shelf.Tests.{cases-lt, cases-bool, both-ways, or-cases, or-right, and-parts, and-from}
+use Rattle.std.proofs.shelf.Tests.{cases-lt, both-ways, or-cases, or-right, and-parts, and-from}
 use Rattle.card.specs.Source.{Source, asking-at, any-asks}
 use Rattle.card.specs.Runs.{turn-of}
 use Rattle.card.proofs.Picks.{any-some}
@@ -16,18 +15,15 @@ use Rattle.bytes.specs.Bytes.{highest}
 use Rattle.bytes.proofs.Bytes.{highest-le}
 use Rattle.processor.specs.declared.state.State.{State as Stage}
 use Rattle.processor.specs.declared.state.State.the-variants.{Idle, Taken}
-use Rattle.processor.specs.declared.state.Done.{Done}
 use Rattle.processor.specs.declared.state.Done.the-variants.{Took as DoneTook}
 use Rattle.processor.specs.declared.state.ProcessorFault.the-variants.{Full}
 use Rattle.processor.specs.declared.state.ProcessorCall.the-variants.{Take as TakeIt}
 use Rattle.processor.specs.Steps.{Proc, above, gives-in}
-use Rattle.rack.specs.declared.calls.Side.{Side}
 use Rattle.rack.specs.declared.calls.Side.the-variants.{Local, Chain}
 use Rattle.rack.specs.declared.calls.Call.{Call}
 use Rattle.rack.specs.declared.calls.Call.the-variants.{Drive, Read, Write, Mask, Take, Acknowledge, Return, Reset}
 use Rattle.rack.specs.declared.calls.Outcome.{Outcome}
 use Rattle.rack.specs.declared.calls.Outcome.the-variants.{Took}
-use Rattle.rack.specs.declared.faults.RackFault.{RackFault}
 use Rattle.rack.specs.Machine.{Parts, State, source-at, count-at, admitted, wants, presented, done-gives, rack-gives, rack-leaves}
 use Rattle.runs.specs.Law.{Wanted, Presents, TakeRight}
 use Rattle.runs.proofs.Edges.{by-size}

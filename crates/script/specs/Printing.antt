@@ -17,7 +17,6 @@ use Rattle.rack.specs.declared.calls.Reached.the-variants.{At, Spurious}
 use Rattle.rack.specs.declared.calls.Outcome.{Outcome}
 use Rattle.rack.specs.declared.calls.Outcome.the-variants.{Drove, Showed, Withdrew, Masked, Took, Answered, Returned, Cleared}
 use Rattle.rack.specs.Words.{side-word}
-use Rattle.std.specs.declared.option.Option.{Option}
 use Rattle.std.specs.declared.option.Option.the-variants.{Some, None}
 use Rattle.script.specs.declared.faults.ScriptFault.{ScriptFault}
 use Rattle.script.specs.Faults.{script-refusal}

@@ -1,12 +1,10 @@
-use mathlib.Core.Path.{_≡_, ap, ap₂, subst, _∙_}
-use mathlib.Core.List.{List}
-use Prim.Native.Nat.{ℕ}
+use mathlib.Core.Path.{ap₂, subst}
 use Rattle.std.specs.declared.result.Result.{Result}
 use Rattle.std.specs.declared.result.Result.the-variants.{Ok, Err}
 use Rattle.std.specs.Vec.{made}
 use Rattle.std.specs.Of.Vec.{vec-items}
 use Rattle.joined.specs.Joining.{pair}
-use Rattle.rack.specs.Machine.{State, start}
+use Rattle.rack.specs.Machine.{start}
 use Rattle.script.specs.Running.{ScriptRan}
 use Rattle.loom.specs.Rack.{loom-parts, loom-start, LoomRan}
 use Rattle.loom.proofs.Fresh.{no-edges}

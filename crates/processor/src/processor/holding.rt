@@ -54,11 +54,11 @@ impl Processor {
         ensures result { λ r. ⌜ r ≡ token-take (proc-of (now (self .entry))) (gives (proc-of (now (self .entry))) (Take presented)) ⌝ }
         ensures after { λ _. ⌜ proc-of (now (self .exit)) ≡ leaves (proc-of (now (self .entry))) (Take presented) ⌝ }
     {
-        let depth = self.next_depth();
+        let next = self.next_depth();
         match self.take_level(presented)? {
             Some(level) => Ok(Some(TakenToken {
                 number: self.number,
-                depth,
+                depth: next,
                 level,
                 spent: false,
             })),

@@ -2,7 +2,7 @@ use mathlib.Core.Path.{_≡_}
 use mathlib.Core.List.{_++_}
 use lib.ListN.{drop}
 use Rattle.std.specs.Of.Vec.{vec-items}
-use Rattle.rack.specs.Machine.{parts, view, start}
+use Rattle.rack.specs.Machine.{parts, view}
 use Rattle.runs.specs.Turns.{end-of-run, results-of}
 use Rattle.runs.proofs.run.Given as given
 

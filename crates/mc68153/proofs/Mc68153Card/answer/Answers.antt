@@ -1,7 +1,7 @@
 use mathlib.Core.Path.{_≡_, ap, _∙_}
 use borrow.Author.Needs.{needs}
 use lib.ListN.{length}
-use Rattle.mc68153.specs.Sheet.{settled, input-at, with-input}
+use Rattle.mc68153.specs.Sheet.{with-input}
 use Rattle.mc68153.proofs.Calls.{some-within, set-table, answer-some, answer-none}
 use Rattle.mc68153.proofs.Mc68153Card.answer.Needs as need
 

@@ -1,6 +1,5 @@
 use mathlib.Core.Path.{_≡_}
 use borrow.Author.Needs.{needs}
-use native.Mathlib.Omega.{arith}
 use lib.ListN.{length}
 use Rattle.mc68153.specs.Sheet.{input, input-at}
 use Rattle.mc68153.proofs.Calls.{set-table, drive-is}

@@ -2,7 +2,7 @@ use mathlib.Core.Path.{_≡_, sym, subst}
 use mathlib.Core.List.{[], _∷_}
 use Prim.Native.Nat.{_<_}
 use native.Mathlib.Omega.{arith}
-use lib.ListN.{take, drop, length}
+use lib.ListN.{take, drop}
 use Rattle.script.specs.Pieces.{lines}
 use Rattle.script.proofs.Cuts.{first-piece, only-line, cut-line, cut-shorter}
 use Rattle.script.proofs.cutting.next_line.Needs as need

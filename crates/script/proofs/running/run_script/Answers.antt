@@ -1,10 +1,9 @@
 use mathlib.Core.Path.{_≡_, ap, sym, _∙_}
 use mathlib.Core.Bool.{true, false}
 use mathlib.Core.List.{_++_}
-use borrow.Author.Needs.{needs}
 use lib.ListN.{length}
 use Rattle.std.proofs.shelf.Tests.{lt-ltb, le-ltb, cond-true, cond-false}
-use Rattle.rack.specs.Machine.{parts, view, start}
+use Rattle.rack.specs.Machine.{parts, view}
 use Rattle.runs.proofs.Keeps.{run-keeps}
 use Rattle.script.specs.Pieces.{lines}
 use Rattle.script.specs.Running.{printed-by, too-long, script-calls}

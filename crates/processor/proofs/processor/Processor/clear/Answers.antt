@@ -1,4 +1,4 @@
-use mathlib.Core.Path.{_≡_, refl, sym}
+use mathlib.Core.Path.{refl, sym}
 use Rattle.processor.proofs.Stacks.{reset-open, reset-free}
 use Rattle.processor.proofs.processor.Processor.clear.Needs as need
 

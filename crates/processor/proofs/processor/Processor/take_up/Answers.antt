@@ -1,4 +1,4 @@
-use mathlib.Core.Path.{_≡_, refl, sym, ap, _∙_}
+use mathlib.Core.Path.{refl, sym, ap, _∙_}
 use Rattle.std.proofs.shelf.Tests.{le-ltb, lt-ltb, cond-true, cond-false}
 use Rattle.std.specs.declared.result.Result.the-variants.{Ok}
 use Rattle.processor.specs.declared.state.Done.the-variants.{Took}

@@ -1,4 +1,3 @@
-use borrow.Author.Needs.{needs}
 use native.Mathlib.Omega.{arith}
 use Rattle.script.specs.Pages.{written}
 use Rattle.script.proofs.Pages.{joins}
