@@ -1,4 +1,6 @@
 // The bits of a byte, for the registers of a chip.
+#![tactic(auto)]
+
 ghost use Rattle.std.specs.Prelude.{◌≡◌, ◌≤◌};
 ghost use Rattle.card.specs.Bits.{bit};
 ghost use Rattle.bits.specs.Bytes.{put, highest};

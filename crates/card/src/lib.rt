@@ -1,5 +1,6 @@
 // The interface of an interrupt card: what a card and a handler are, what each call promises, and the law over every run of
 // calls. `specs/` has the definitions that the promises are made in.
+#![tactic(auto)]
 
 mod calls;
 mod faults;

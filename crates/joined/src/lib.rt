@@ -1,4 +1,6 @@
 // Two cards joined into one: a daisy chain. The front card's sources and registers come first, the rear card's follow.
+#![tactic(auto)]
+
 ghost use Rattle.std.specs.Prelude.{◌≡◌, ◌+◌, ◌<◌};
 ghost use Rattle.card.specs.Model.{oversize};
 ghost use Rattle.joined.specs.Joining.{join, behind, source_named, register_named};

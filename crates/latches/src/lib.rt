@@ -1,5 +1,7 @@
 // Seven request inputs that can be of edge or level sort, as chips have them: their wires, and the edges that they hold. What else a
 // source has, a chip's registers say.
+#![tactic(auto)]
+
 ghost use Rattle.std.specs.Prelude.{◌≡◌};
 ghost use Rattle.card.specs.Meaning.{driving};
 ghost use Rattle.card.specs.Withdrawing.{told};

@@ -1,4 +1,6 @@
 // The mill's rack: the plain handler above an MC68153 joined with another. One call runs a whole script on a new one.
+#![tactic(auto)]
+
 ghost use Rattle.std.specs.Prelude.{IfOk};
 ghost use Rattle.loom.specs.Rack.{LoomRan};
 

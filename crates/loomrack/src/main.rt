@@ -1,4 +1,6 @@
 // Reads a script on standard input, runs it on the rack, and prints a line for each of its lines.
+#![tactic(auto)]
+
 use std::io;
 use std::io::{Read, Write};
 

@@ -1,5 +1,7 @@
 // The MC68153 bus interrupter module: four level inputs and eight registers. Registers 0 to 3 are the control registers of inputs
 // 0 to 3, and registers 4 to 7 their vector registers. `specs/Sheet.antt` is its data sheet.
+#![tactic(auto)]
+
 ghost use Rattle.std.specs.Prelude.{◌≡◌, ℕ, ◌<◌, false};
 ghost use Rattle.card.specs.Source.{asking, asking_at, pick};
 ghost use Rattle.mc68153.specs.Sheet.{fresh, fresh_input, level_in, reply_of_input, input_source, settled, source_at, mc68153_model};

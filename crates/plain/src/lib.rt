@@ -1,4 +1,6 @@
 // The plain handler: no sources and no registers; it admits every level.
+#![tactic(auto)]
+
 ghost use Rattle.plain.specs.Sheet.{plain_model};
 ghost use Rattle.plain.specs.Rules.{plain_laws};
 ghost use Rattle.std.proofs.Common.{rules};

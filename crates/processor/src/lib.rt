@@ -1,5 +1,6 @@
 // The processor's side of a rack: its mask, the level that it has taken, its open services, and the tokens for them. It knows no card:
 // a take is told the presented level.
+#![tactic(auto)]
 
 mod processor;
 mod runs;

@@ -1,4 +1,5 @@
 // The rack: any handler above any chain of cards, and one processor. Its calls, by depth and by token.
+#![tactic(auto)]
 
 mod calls;
 mod faults;

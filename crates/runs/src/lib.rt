@@ -1,4 +1,6 @@
 // Runs of a rack: any list of calls, granted or refused, and the law that holds of all of them (`specs/Law.antt`).
+#![tactic(auto)]
+
 ghost use Rattle.std.specs.Prelude.{IfOk};
 ghost use Rattle.rack.specs.Machine.{parts, view, start};
 ghost use Rattle.runs.specs.Law.{Ran};

@@ -1,5 +1,7 @@
 // The SCB68155 interrupt handler: seven request lines and eight registers. Line n asks at level n and is source n - 1; lines 1 to 6
 // are LRQ1 to LRQ6, and line 7 is NMI. `specs/Sheet.antt` is its data sheet.
+#![tactic(auto)]
+
 ghost use Rattle.std.specs.Prelude.{◌≡◌};
 ghost use Rattle.scb68155.specs.Sheet.{fresh, requests, notices, scb68155_model};
 ghost use Rattle.scb68155.specs.Rules.{scb68155_laws};

@@ -1,4 +1,5 @@
 // Scripts: lines in, lines out. A line makes one call of a rack; what is printed of it is its number and the result.
+#![tactic(auto)]
 
 mod cutting;
 mod faults;

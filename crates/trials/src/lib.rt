@@ -1,5 +1,6 @@
 // Worked examples: a client that serves interrupts by token, and tests, chip by chip and for scripts. Each test is proved to be safe, and
 // then run.
+#![tactic(auto)]
 
 mod clients;
 #[cfg(test)]

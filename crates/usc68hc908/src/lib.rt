@@ -1,5 +1,7 @@
 // The USC68HC908 programmable interrupt controller: seven channels, which ask at the one level that the card is wired to, and four
 // registers. `specs/Sheet.antt` is its data sheet.
+#![tactic(auto)]
+
 ghost use Rattle.std.specs.Prelude.{◌≡◌, ◌<◌, ◌≤◌};
 ghost use Rattle.card.specs.Withdrawing.{told};
 ghost use Rattle.card.specs.Meaning.{lost};

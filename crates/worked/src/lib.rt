@@ -1,4 +1,6 @@
 // The worked examples, as one proved fact about the definitions that the cards' and the rack's contracts are stated in.
+#![tactic(auto)]
+
 ghost use Rattle.std.specs.Prelude.{◌≡◌};
 ghost use Rattle.worked.specs.Worked.{WorkedExamples};
 
