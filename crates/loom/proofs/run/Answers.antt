@@ -14,6 +14,6 @@ pub returns : goal.returns
 returns c =
     let s = c.args.script.now in
     let st = ap₂ (λ f r. start 1 (record {}) (pair f r)) c.new.ensures c.new-2.ensures in
-    made_map c.run-script.result _ (λ printed. LoomRan s (vec_items printed))
+    made_map c.run_script.result _ (λ printed. LoomRan s (vec_items printed))
     (λ printed ran. let done : ScriptRan loom_parts loom_start s (vec_items printed) = subst (λ x. ScriptRan loom_parts x s (vec_items printed)) st ran in record { prints = done.prints; keeps = done.keeps no_edges })
-    c.run-script.ensures
+    c.run_script.ensures

@@ -21,7 +21,7 @@ loop-call-preserved g c =
       ap (λ z. end_of_run p z rest) c.step.ensures.after
           ∙ sym (at_drop_more (end_of_run p x) calls i (Drive Local 0 false) c.loop-call-test.true)
           ∙ c.loop-call.invariant.0,
-      results_more p x y (get_or calls i (Drive Local 0 false)) rest (vec_items c.loop-call.results) (vec_items c.push.new.self) c.step.result c.step.ensures.result c.step.ensures.after c.in-ok-push.ensures.items
+      results_more p x y (get_or calls i (Drive Local 0 false)) rest (vec_items c.loop-call.results) (vec_items c.push.new.self) c.step.result c.step.ensures.result c.step.ensures.after c.in_ok-push.ensures.items
           ∙ ap (λ l. vec_items c.loop-call.results ++ l) (sym (at_drop_more (results_of p x) calls i (Drive Local 0 false) c.loop-call-test.true))
           ∙ c.loop-call.invariant.1,
     )

@@ -11,12 +11,12 @@ returns-then-not-edge c =
     let done = drive_is l c.args.input c.args.asserted c.args.edge c.args.armed false _ _ _ c.if-not-edge.true refl refl refl _ (ap (λ m. latches m l.held) c.with-self.ensures) in
     record { result = done.0; after = done.1 }
 
-pub returns-then-was-asserted : goal.returns-then-was-asserted
-returns-then-was-asserted c =
+pub returns-then-was_asserted : goal.returns-then-was_asserted
+returns-then-was_asserted c =
     let l = c.args.self.now in
     let w = c.args.asserted in
-    let down : (not (bit l.wires c.args.input) && w) ≡ false = elim c.then-was-asserted.either [
-      | inl was ↦ ap (λ b. not b && w) (sym c.is-set-was-asserted.ensures ∙ was)
+    let down : (not (bit l.wires c.args.input) && w) ≡ false = elim c.then-was_asserted.either [
+      | inl was ↦ ap (λ b. not b && w) (sym c.is_set-was_asserted.ensures ∙ was)
       | inr low ↦ and_right (not (bit l.wires c.args.input)) w low.1
     ] in
     let done = drive_is l c.args.input w c.args.edge c.args.armed true false _ _ c.if-not-edge.false down refl refl _ (ap (λ m. latches m l.held) c.with-self.ensures) in
@@ -25,20 +25,20 @@ returns-then-was-asserted c =
 pub returns-then-not-armed : goal.returns-then-not-armed
 returns-then-not-armed c =
     let l = c.args.self.now in
-    let up = ap₂ (λ b w. not b && w) (sym c.is-set-was-asserted.ensures ∙ c.if-was-asserted.false) c.if-not-asserted.false in
+    let up = ap₂ (λ b w. not b && w) (sym c.is_set-was_asserted.ensures ∙ c.if-was_asserted.false) c.if-not-asserted.false in
     let done = drive_is l c.args.input c.args.asserted c.args.edge c.args.armed true true false _ c.if-not-edge.false up c.if-not-armed.true refl _ (ap (λ m. latches m l.held) c.with-self.ensures) in
     record { result = done.0; after = done.1 }
 
-pub returns-then-was-held : goal.returns-then-was-held
-returns-then-was-held c =
+pub returns-then-was_held : goal.returns-then-was_held
+returns-then-was_held c =
     let l = c.args.self.now in
-    let up = ap₂ (λ b w. not b && w) (sym c.is-set-was-asserted.ensures ∙ c.if-was-asserted.false) c.if-not-asserted.false in
-    let done = drive_is l c.args.input c.args.asserted c.args.edge c.args.armed true true true true c.if-not-edge.false up c.if-not-armed.false (sym c.is-set-was-held.ensures ∙ c.if-was-held.true) _ (ap₂ latches c.with-self.ensures c.with-self-2.ensures) in
+    let up = ap₂ (λ b w. not b && w) (sym c.is_set-was_asserted.ensures ∙ c.if-was_asserted.false) c.if-not-asserted.false in
+    let done = drive_is l c.args.input c.args.asserted c.args.edge c.args.armed true true true true c.if-not-edge.false up c.if-not-armed.false (sym c.is_set-was_held.ensures ∙ c.if-was_held.true) _ (ap₂ latches c.with-self.ensures c.with-self-2.ensures) in
     record { result = done.0; after = done.1 }
 
-pub returns-else-was-held : goal.returns-else-was-held
-returns-else-was-held c =
+pub returns-else-was_held : goal.returns-else-was_held
+returns-else-was_held c =
     let l = c.args.self.now in
-    let up = ap₂ (λ b w. not b && w) (sym c.is-set-was-asserted.ensures ∙ c.if-was-asserted.false) c.if-not-asserted.false in
-    let done = drive_is l c.args.input c.args.asserted c.args.edge c.args.armed true true true false c.if-not-edge.false up c.if-not-armed.false (sym c.is-set-was-held.ensures ∙ c.if-was-held.false) _ (ap₂ latches c.with-self.ensures c.with-self-2.ensures) in
+    let up = ap₂ (λ b w. not b && w) (sym c.is_set-was_asserted.ensures ∙ c.if-was_asserted.false) c.if-not-asserted.false in
+    let done = drive_is l c.args.input c.args.asserted c.args.edge c.args.armed true true true false c.if-not-edge.false up c.if-not-armed.false (sym c.is_set-was_held.ensures ∙ c.if-was_held.false) _ (ap₂ latches c.with-self.ensures c.with-self-2.ensures) in
     record { result = done.0; after = done.1 }

@@ -4,6 +4,6 @@ use Rattle.latches.proofs.Latches.withdraw_but.Goals as goal
 
 pub returns : goal.returns
 returns c = record {
-  result = c.from-byte.ensures ∙ loses_is c.args.self.now c.args.edges c.args.kept (search rules) (search rules);
+  result = c.from_byte.ensures ∙ loses_is c.args.self.now c.args.edges c.args.kept (search rules) (search rules);
   after = keeping_is c.args.self.now c.args.edges c.args.kept (search rules);
 }

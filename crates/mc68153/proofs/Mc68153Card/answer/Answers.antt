@@ -6,8 +6,8 @@ use Rattle.mc68153.proofs.Mc68153Card.answer.Goals as goal
 pub bounds-self-source : goal.bounds-self-source
 bounds-self-source c = some_within c.args.self.now c.args.level c.in-Some.source c.in-Some.ensures
 
-pub returns-in-default : goal.returns-in-default
-returns-in-default c = let done = answer_none c.args.self.now c.args.level c.if-level-lt1.false c.if-level-gt7.false c.in-default.ensures in record { result = done.0; after = done.1 }
+pub returns-in_default : goal.returns-in_default
+returns-in_default c = let done = answer_none c.args.self.now c.args.level c.if-level-lt1.false c.if-level-gt7.false c.in_default.ensures in record { result = done.0; after = done.1 }
 
 pub returns : goal.returns
 returns c =

@@ -7,5 +7,5 @@ pub returns : goal.returns
 returns c =
     let x = c.args.self.now in
     let i = lines x.registers in
-    let done = drive_is x c.args.source c.args.asserted c.drive.result c.drive.new.self c.if-source-ge7.false (c.drive.ensures.result i c.is-edge-edge.ensures refl) (c.drive.ensures.after i c.is-edge-edge.ensures refl) in
+    let done = drive_is x c.args.source c.args.asserted c.drive.result c.drive.new.self c.if-source-ge7.false (c.drive.ensures.result i c.is_edge-edge.ensures refl) (c.drive.ensures.after i c.is_edge-edge.ensures refl) in
     record { result = done.0; after = done.1 }

@@ -6,13 +6,13 @@ pub returns-then-text-gt80 : goal.returns-then-text-gt80
 unfolding parsed
 returns-then-text-gt80 c = search rules
 
-pub returns-then-field-count-arity : goal.returns-then-field-count-arity
+pub returns-then-field_count-arity : goal.returns-then-field_count-arity
 unfolding parsed
-returns-then-field-count-arity c = search rules
+returns-then-field_count-arity c = search rules
 
-pub returns-else-field-count-arity : goal.returns-else-field-count-arity
+pub returns-else-field_count-arity : goal.returns-else-field_count-arity
 unfolding parsed
-returns-else-field-count-arity c = search rules
+returns-else-field_count-arity c = search rules
 
 pub returns-in-None : goal.returns-in-None
 unfolding parsed

@@ -8,8 +8,8 @@ use Rattle.script.proofs.printing.show.Goals.{in-Ok, in-Err}
 text-is : (c : goal.After-push) → written c.push.new.self ≡ printed c.args.number c.args.given
 text-is c =
     elim c.match-given.branch [
-      | in-Ok w ↦ whole c.args.number c.args.given (outcome_fields w.in-Ok.outcome) (written c.numbered-page.result) (written c.match-given.page) (written c.push.new.self) c.numbered-page.ensures.text (ap written w.page-is ∙ w.show-outcome.ensures.text) (ap result_fields (sym w.in-Ok.is)) c.push.ensures.text
-      | in-Err w ↦ whole c.args.number c.args.given (refusal_fields w.refusal.result) (written c.numbered-page.result) (written c.match-given.page) (written c.push.new.self) c.numbered-page.ensures.text (ap written w.page-is ∙ w.show-refusal.ensures.text) (ap refusal_fields w.refusal.ensures ∙ ap result_fields (sym w.in-Err.is)) c.push.ensures.text
+      | in-Ok w ↦ whole c.args.number c.args.given (outcome_fields w.in-Ok.outcome) (written c.numbered-page.result) (written c.match-given.page) (written c.push.new.self) c.numbered-page.ensures.text (ap written w.page-is ∙ w.show_outcome.ensures.text) (ap result_fields (sym w.in-Ok.is)) c.push.ensures.text
+      | in-Err w ↦ whole c.args.number c.args.given (refusal_fields w.refusal.result) (written c.numbered-page.result) (written c.match-given.page) (written c.push.new.self) c.numbered-page.ensures.text (ap written w.page-is ∙ w.show_refusal.ensures.text) (ap refusal_fields w.refusal.ensures ∙ ap result_fields (sym w.in-Err.is)) c.push.ensures.text
     ]
 
 pub returns : goal.returns

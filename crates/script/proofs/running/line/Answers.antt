@@ -13,7 +13,7 @@ returns g c =
     let wide : short out ≡ false = le-ltb (length out) 128 c.if-out-lt128.false in
     let is : written c.show-page.result ≡ text = c.show-page.ensures.text ∙ ap (printed c.args.number) c.obey.ensures.result in
     let len : c.len-len.result ≡ length text = search rules in
-    let prints : c.copy-from-slice.new.self ++ drop (c.len-len.result - 0) out ≡ over text out = search rules in
+    let prints : c.copy_from_slice.new.self ++ drop (c.len-len.result - 0) out ≡ over text out = search rules in
     record {
       result = ap Ok len ∙ sym (cond-false (short out) _ _ wide);
       prints = prints ∙ sym (cond-false (short out) _ _ wide);

@@ -12,7 +12,7 @@ returns-then-script-gt65536 g c =
     let s = c.args.script.now in
     let over : too_long s ≡ true = lt-ltb 65536 (length s) c.if-script-gt65536.true in
     record {
-      prints = c.in-ok-extend-from-slice.ensures.items ∙ ap (λ l. l ++ c.as-slice.result.now) c.new-out.ensures.items ∙ c.as-slice.ensures.value ∙ c.show-page.ensures.text ∙ sym (cond-true (too_long s) _ _ over);
+      prints = c.in_ok-extend_from_slice.ensures.items ∙ ap (λ l. l ++ c.as_slice.result.now) c.new-out.ensures.items ∙ c.as_slice.ensures.value ∙ c.show-page.ensures.text ∙ sym (cond-true (too_long s) _ _ over);
       keeps = run_keeps p g.met.H.Card.laws g.met.H.Handler.notices g.met.C.Card.laws c.args.number c.args.handler c.args.chain (script_calls s);
     }
 
@@ -22,6 +22,6 @@ returns g c =
     let s = c.args.script.now in
     let fits : too_long s ≡ false = le-ltb 65536 (length s) c.if-script-gt65536.false in
     record {
-      prints = c.in-ok-run-lines.ensures ∙ ap (λ l. l ++ printed_by p (view c.new-rack.result) 1 (lines s)) c.new-out.ensures.items ∙ ap (λ z. printed_by p z 1 (lines s)) c.new-rack.ensures ∙ sym (cond-false (too_long s) _ _ fits);
+      prints = c.in_ok-run_lines.ensures ∙ ap (λ l. l ++ printed_by p (view c.new-rack.result) 1 (lines s)) c.new-out.ensures.items ∙ ap (λ z. printed_by p z 1 (lines s)) c.new-rack.ensures ∙ sym (cond-false (too_long s) _ _ fits);
       keeps = run_keeps p g.met.H.Card.laws g.met.H.Handler.notices g.met.C.Card.laws c.args.number c.args.handler c.args.chain (script_calls s);
     }

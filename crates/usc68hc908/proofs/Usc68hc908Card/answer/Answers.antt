@@ -7,13 +7,13 @@ returns-then-level c =
     let done = answer_none c.args.self.now c.args.level c.if-level-lt1.false c.if-level-gt7.false (pick_elsewhere c.args.self.now c.args.level (λ e. c.if-level.true (e ∙ sym c.level.ensures.value))) in
     record { result = done.0; after = done.1 }
 
-pub returns-in-default : goal.returns-in-default
-returns-in-default c =
-    let done = answer_none c.args.self.now c.args.level c.if-level-lt1.false c.if-level-gt7.false (pick_missing c.args.self.now c.args.level c.in-default.ensures) in
+pub returns-in_default : goal.returns-in_default
+returns-in_default c =
+    let done = answer_none c.args.self.now c.args.level c.if-level-lt1.false c.if-level-gt7.false (pick_missing c.args.self.now c.args.level c.in_default.ensures) in
     record { result = done.0; after = done.1 }
 
-pub overflow-add-result : goal.overflow-add-result
-overflow-add-result c = let w = chosen_within c.args.self.now c.in-Some.channel c.in-Some.ensures in omega (arith, w.1, c.base.ensures.bound)
+pub overflow_add-result : goal.overflow_add-result
+overflow_add-result c = let w = chosen_within c.args.self.now c.in-Some.channel c.in-Some.ensures in omega (arith, w.1, c.base.ensures.bound)
 
 pub returns : goal.returns
 returns c =

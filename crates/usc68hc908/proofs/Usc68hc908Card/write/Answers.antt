@@ -7,15 +7,15 @@ pub returns-in-1 : goal.returns-in-1
 returns-in-1 c = let done = write_imr c.args.self.now c.args.register c.args.value c.none.result c.in-1.is c.none.ensures in record { result = done.0; after = done.1 }
 
 pub returns-in-2 : goal.returns-in-2
-returns-in-2 c = let done = write_ier c.args.self.now c.args.register c.args.value c.withdraw-but.new.self c.withdraw-but.result c.in-2.is c.withdraw-but.ensures.after c.withdraw-but.ensures.result in record { result = done.0; after = done.1 }
+returns-in-2 c = let done = write_ier c.args.self.now c.args.register c.args.value c.withdraw_but.new.self c.withdraw_but.result c.in-2.is c.withdraw_but.ensures.after c.withdraw_but.ensures.result in record { result = done.0; after = done.1 }
 
 pub returns-in-3 : goal.returns-in-3
-returns-in-3 c = let done = write_ivr c.args.self.now c.args.register c.args.value c.none-in-3.result c.in-3.is (sym c.is-set.ensures ∙ c.if-is-set.true) c.none-in-3.ensures in record { result = done.0; after = done.1 }
+returns-in-3 c = let done = write_ivr c.args.self.now c.args.register c.args.value c.none-in-3.result c.in-3.is (sym c.is_set.ensures ∙ c.if-is_set.true) c.none-in-3.ensures in record { result = done.0; after = done.1 }
 
 pub returns-in-3-2 : goal.returns-in-3-2
-returns-in-3-2 c = let done = write_zero c.args.self.now c.clear.new.self c.args.register c.args.value c.clear.result c.in-3.is (sym c.is-set.ensures ∙ c.if-is-set.false) c.if-value-eq0.true c.clear.ensures.after c.clear.ensures.result in record { result = done.0; after = done.1 }
+returns-in-3-2 c = let done = write_zero c.args.self.now c.clear.new.self c.args.register c.args.value c.clear.result c.in-3.is (sym c.is_set.ensures ∙ c.if-is_set.false) c.if-value-eq0.true c.clear.ensures.after c.clear.ensures.result in record { result = done.0; after = done.1 }
 
 pub returns-in-3-3 : goal.returns-in-3-3
 returns-in-3-3 c =
-    let done = write_isr c.args.self.now c.args.register c.args.value _ c.none-in-3-3.result c.in-3.is (sym c.is-set.ensures ∙ c.if-is-set.false) c.if-value-eq0.false (and_both c.args.self.now.isr c.args.value (search rules)) c.none-in-3-3.ensures in
+    let done = write_isr c.args.self.now c.args.register c.args.value _ c.none-in-3-3.result c.in-3.is (sym c.is_set.ensures ∙ c.if-is_set.false) c.if-value-eq0.false (and_both c.args.self.now.isr c.args.value (search rules)) c.none-in-3-3.ensures in
     record { result = done.0; after = done.1 }

@@ -4,4 +4,4 @@ use Rattle.rack.proofs.Presents.{top_of}
 use Rattle.rack.proofs.rack.Rack.presented_level.Goals as goal
 
 pub returns : goal.returns
-returns g c = c.highest-set.ensures.value ∙ top_of (wants (parts g.H.Card.model g.H.Handler.noticed g.C.Card.model) (view c.args.self.now)) _ c.wanted-levels.ensures
+returns g c = c.highest_set.ensures.value ∙ top_of (wants (parts g.H.Card.model g.H.Handler.noticed g.C.Card.model) (view c.args.self.now)) _ c.wanted_levels.ensures

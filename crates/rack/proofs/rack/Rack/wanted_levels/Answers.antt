@@ -8,4 +8,4 @@ pub returns : goal.returns
 returns g c =
     let p = parts g.H.Card.model g.H.Handler.noticed g.C.Card.model in
     let x = view c.args.self.now in
-    wanted_byte (any_asks (source_at p Local x) (count_at p Local)) (any_asks (source_at p Chain x) (count_at p Chain)) (admitted p x) _ _ _ c.asked.ensures c.asked-2.ensures c.admitted-levels.ensures
+    wanted_byte (any_asks (source_at p Local x) (count_at p Local)) (any_asks (source_at p Chain x) (count_at p Chain)) (admitted p x) _ _ _ c.asked.ensures c.asked-2.ensures c.admitted_levels.ensures

@@ -5,14 +5,14 @@ use Rattle.scb68155.specs.Sheet.{low_bits, named, control, pointer_fault}
 use Rattle.scb68155.specs.Parts.{low_is, named_ok, refused_by}
 use Rattle.scb68155.proofs.registers.Registers.read_control.Goals as goal
 
-pub returns-in-err-line : goal.returns-in-err-line
-returns-in-err-line c =
+pub returns-in_err-line : goal.returns-in_err-line
+returns-in_err-line c =
     let r = c.args.self.now in
-    let left = err_from_is_err_and c.from-residual.result c.from-residual.ensures.1 in
-    left.1 ∙ ap Err left.2 ∙ sym (ap (λ o. unless_refused o (low_bits (control r (named r)))) (refused_by (pointer_fault r) (named r) c.in-err-line.field-0.0 c.in-err-line.ensures))
+    let left = err_from_is_err_and c.from_residual.result c.from_residual.ensures.1 in
+    left.1 ∙ ap Err left.2 ∙ sym (ap (λ o. unless_refused o (low_bits (control r (named r)))) (refused_by (pointer_fault r) (named r) c.in_err-line.field-0.0 c.in_err-line.ensures))
 
 pub returns : goal.returns
 returns c =
     let r = c.args.self.now in
-    let line = named_ok r c.in-ok-line.line c.in-ok-line.ensures in
+    let line = named_ok r c.in_ok-line.line c.in_ok-line.ensures in
     ap Ok (low_is c.control.result c.control.type-inv ∙ ap low_bits (c.control.ensures ∙ ap (control r) line.is)) ∙ sym (ap (λ o. unless_refused o (low_bits (control r (named r)))) line.granted)

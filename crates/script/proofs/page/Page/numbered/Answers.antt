@@ -2,8 +2,8 @@ use Rattle.std.proofs.Common.{◌++◌, decimal, ap, ◌∙◌, arith}
 use Rattle.script.proofs.Pages.{number_short}
 use Rattle.script.proofs.page.Page.numbered.Goals as goal
 
-pub push-number-requires : goal.push-number-requires
-push-number-requires c = omega (arith, number_short c.args.n (omega arith))
+pub push_number-requires : goal.push_number-requires
+push_number-requires c = omega (arith, number_short c.args.n (omega arith))
 
 pub returns : goal.returns
-returns c = record { text = c.push-number.ensures.text ∙ ap (λ t. t ++ decimal c.args.n) c.new-page.ensures.text; bound = omega (arith, number_short c.args.n (omega arith)) }
+returns c = record { text = c.push_number.ensures.text ∙ ap (λ t. t ++ decimal c.args.n) c.new-page.ensures.text; bound = omega (arith, number_short c.args.n (omega arith)) }
