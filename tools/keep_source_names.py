@@ -21,7 +21,7 @@ def turn(token, names):
     while i < len(parts):
         for j in range(len(parts), i + 1, -1):
             joined = "_".join(parts[i:j])
-            if joined in names:
+            if joined in names and parts[i] not in ("if", "then", "else"):
                 out.append(joined)
                 i = j
                 break

@@ -10,11 +10,11 @@ returns c =
     let r = c.args.register in
     let v = c.args.value in
     let four : length x.inputs ≡ 4 = search rules in
-    let after : c.if_register-lt4.self ≡ writes x r v =
-    elim c.if_register-lt4.branch [
+    let after : c.if-register-lt4.self ≡ writes x r v =
+    elim c.if-register-lt4.branch [
       | in-0-to-3 w ↦ (let h : r < 4 = omega arith in w.self-is ∙ set_table x r (input v (input_at x r).vector (input_at x r).asserted) four h ∙ write_control x r v h)
       | in-4-to-7 w ↦ (let h : 4 ≤ r = omega arith in w.self-is ∙ set_table x (r - 4) (input (input_at x (r - 4)).control v (input_at x (r - 4)).asserted) four (omega arith) ∙ write_vector x r v h)
     ] in
-    let within : r < 8 = elim c.if_register-lt4.branch [ in-0-to-3 w ↦ omega arith | in-4-to-7 w ↦ omega arith ] in
-    let done = write_is x c.if_register-lt4.self r v c.none.result within after c.none.ensures in
+    let within : r < 8 = elim c.if-register-lt4.branch [ in-0-to-3 w ↦ omega arith | in-4-to-7 w ↦ omega arith ] in
+    let done = write_is x c.if-register-lt4.self r v c.none.result within after c.none.ensures in
     record { result = done.0; after = done.1 }
