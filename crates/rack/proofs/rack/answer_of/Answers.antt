@@ -8,5 +8,5 @@ returns-in-Ok g c =
 
 pub returns-in-Err : goal.returns-in-Err
 returns-in-Err g c =
-    let done = side_refuses g.K.Card.model g.met.K.Card.laws c.args.card.now c.args.level c.requires c.in-Err.-fault c.in-Err.ensures.result _ c.in-Err.ensures.after in
+    let done = side_refuses g.K.Card.model g.met.K.Card.laws c.args.card.now c.args.level c.requires c.in-Err._fault c.in-Err.ensures.result _ c.in-Err.ensures.after in
     record { result = done.0; after = done.1 }

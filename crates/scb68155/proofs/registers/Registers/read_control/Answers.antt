@@ -15,4 +15,4 @@ pub returns : goal.returns
 returns c =
     let r = c.args.self.now in
     let line = named_ok r c.in_ok-line.line c.in_ok-line.ensures in
-    ap Ok (low_is c.control.result c.control.type-inv ∙ ap low_bits (c.control.ensures ∙ ap (control r) line.is)) ∙ sym (ap (λ o. unless_refused o (low_bits (control r (named r)))) line.granted)
+    ap Ok (low_is c.control.result c.control.type_inv ∙ ap low_bits (c.control.ensures ∙ ap (control r) line.is)) ∙ sym (ap (λ o. unless_refused o (low_bits (control r (named r)))) line.granted)
