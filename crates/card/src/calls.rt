@@ -18,7 +18,7 @@ pub enum CardCall {
 }
 
 /// What a call of a card gave.
-#[derive(Clone, Copy)]
+#[derive(Clone, Copy, PartialEq, Eq)]
 pub enum CardResult {
     Drove(Result<Driven, CardFault>),
     Showed(Result<u8, CardFault>),

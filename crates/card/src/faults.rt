@@ -1,6 +1,8 @@
-ghost use Rattle.std.specs.Prelude.{◌≡◌};
+ghost use Rattle.std.specs.Prelude.{◌≡◌, Some};
 ghost use Rattle.card.specs.Faults.{card_refusal};
-ghost use Rattle.card.specs.Words.{layer_word};
+ghost use Rattle.card.specs.Words.{layer_word, tabbed, refusal_fields};
+
+use std::fmt;
 
 /// The layer that refused a call.
 #[derive(Clone, Copy, PartialEq, Eq, Debug)]
@@ -29,6 +31,18 @@ pub struct Refusal {
     pub number: u8,
     pub layer: Layer,
     pub place: u8,
+}
+
+// As a script prints it.
+impl fmt::Display for Refusal {
+    ghost output = { λ r. Some (tabbed (refusal_fields r)) };
+
+    fn fmt<W: fmt::Write>(&self, f: &mut fmt::Formatter<W>) -> fmt::Result {
+        let number = self.number;
+        let layer = self.layer.word();
+        let place = self.place;
+        write!(f, "refused\t{number}\t{layer}\t{place}")
+    }
 }
 
 /// Why a card refuses a call.
@@ -66,5 +80,13 @@ impl CardFault {
             layer: Layer::Card,
             place,
         }
+    }
+}
+
+impl fmt::Display for CardFault {
+    ghost output = { λ e. Some (tabbed (refusal_fields (card_refusal e))) };
+
+    fn fmt<W: fmt::Write>(&self, f: &mut fmt::Formatter<W>) -> fmt::Result {
+        fmt::Display::fmt(&self.refusal(), f)
     }
 }

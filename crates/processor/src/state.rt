@@ -1,9 +1,12 @@
-ghost use Rattle.std.specs.Prelude.{◌≡◌};
+ghost use Rattle.std.specs.Prelude.{◌≡◌, Some};
 ghost use Rattle.card.specs.declared.faults.Layer.TheVariants.{Rack};
 ghost use Rattle.card.specs.Faults.{refusal};
+ghost use Rattle.card.specs.Words.{tabbed, refusal_fields};
 ghost use Rattle.processor.specs.Faults.{processor_refusal};
 
 use card::{Layer, Refusal};
+use std::fmt;
+use std::fmt::Display;
 
 /// What a processor is about: nothing, or a level that it has taken and not acknowledged yet.
 #[derive(Clone, Copy)]
@@ -84,5 +87,14 @@ impl ProcessorFault {
             ProcessorFault::Full => by_rack(24, 16),
             ProcessorFault::ServicesOpen(count) => by_rack(25, count),
         }
+    }
+}
+
+// As a script prints it.
+impl fmt::Display for ProcessorFault {
+    ghost output = { λ e. Some (tabbed (refusal_fields (processor_refusal e))) };
+
+    fn fmt<W: fmt::Write>(&self, f: &mut fmt::Formatter<W>) -> fmt::Result {
+        fmt::Display::fmt(&self.refusal(), f)
     }
 }

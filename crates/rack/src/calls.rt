@@ -1,7 +1,9 @@
-ghost use Rattle.std.specs.Prelude.{◌≡◌};
-ghost use Rattle.rack.specs.Words.{side_word};
+ghost use Rattle.std.specs.Prelude.{◌≡◌, Some};
+ghost use Rattle.card.specs.Words.{tabbed};
+ghost use Rattle.rack.specs.Words.{side_word, reached_fields, outcome_fields};
 
-use card::{Answer, Driven, Withdrawn};
+use card::{Answer, Driven, Reply, Withdrawn};
+use std::fmt;
 
 /// A side of a rack: the handler's own sources and registers, or the chain's.
 #[derive(Clone, Copy, PartialEq, Eq, Debug)]
@@ -78,4 +80,51 @@ pub enum Outcome {
     Returned(u8),
     /// The sources whose held edge a reset withdrew: of the chain, and of the handler.
     Cleared(Withdrawn, Withdrawn),
+}
+
+// As a script prints it: the fields parted by tabs.
+impl fmt::Display for Reached {
+    ghost output = { λ r. Some (tabbed (reached_fields r)) };
+
+    fn fmt<W: fmt::Write>(&self, f: &mut fmt::Formatter<W>) -> fmt::Result {
+        match *self {
+            Reached::At(side, answer) => {
+                let word = side.word();
+                let source = answer.source;
+                match answer.reply {
+                    Reply::Byte(vector) => write!(f, "vector\t{word}\t{source}\t{vector}"),
+                    Reply::Outside => write!(f, "outside\t{word}\t{source}"),
+                }
+            }
+            Reached::Spurious(vector) => write!(f, "spurious\t{vector}"),
+        }
+    }
+}
+
+impl fmt::Display for Outcome {
+    ghost output = { λ o. Some (tabbed (outcome_fields o)) };
+
+    fn fmt<W: fmt::Write>(&self, f: &mut fmt::Formatter<W>) -> fmt::Result {
+        match *self {
+            Outcome::Drove(driven) => {
+                let word = driven.word();
+                write!(f, "{word}")
+            }
+            Outcome::Showed(value) => write!(f, "byte\t{value}"),
+            Outcome::Withdrew(withdrawn) => {
+                let bits = withdrawn.first_word();
+                write!(f, "drop\t{bits}")
+            }
+            Outcome::Masked => write!(f, "ok"),
+            Outcome::Took(None) => write!(f, "none"),
+            Outcome::Took(Some(level)) => write!(f, "level\t{level}"),
+            Outcome::Answered(reached) => fmt::Display::fmt(&reached, f),
+            Outcome::Returned(mask) => write!(f, "mask\t{mask}"),
+            Outcome::Cleared(chain, local) => {
+                let chain_bits = chain.first_word();
+                let local_bits = local.first_word();
+                write!(f, "drop\t{chain_bits}\t{local_bits}")
+            }
+        }
+    }
 }

@@ -1,9 +1,12 @@
-ghost use Rattle.std.specs.Prelude.{◌≡◌};
+ghost use Rattle.std.specs.Prelude.{◌≡◌, Some};
 ghost use Rattle.rack.specs.declared.faults.RackFault.TheVariants.{Card, Processor};
 ghost use Rattle.rack.specs.Faults.{rack_refusal};
+ghost use Rattle.card.specs.Words.{tabbed, refusal_fields};
 
 use card::{CardFault, Refusal};
 use processor::ProcessorFault;
+use std::fmt;
+use std::fmt::Display;
 
 /// Why a rack refuses a call: the fault of a card or of the processor, carried whole.
 #[derive(Clone, Copy, PartialEq, Eq, Debug)]
@@ -37,5 +40,14 @@ impl RackFault {
             RackFault::Card(fault) => fault.refusal(),
             RackFault::Processor(fault) => fault.refusal(),
         }
+    }
+}
+
+// As a script prints it.
+impl fmt::Display for RackFault {
+    ghost output = { λ e. Some (tabbed (refusal_fields (rack_refusal e))) };
+
+    fn fmt<W: fmt::Write>(&self, f: &mut fmt::Formatter<W>) -> fmt::Result {
+        fmt::Display::fmt(&self.refusal(), f)
     }
 }

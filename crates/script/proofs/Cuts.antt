@@ -1,5 +1,5 @@
 -- The first line or field of a text, and the rest.
-use Rattle.std.proofs.Common.{◌≡◌, ℕ, zero, suc, ◌+◌, ◌-◌, ◌<◌, ◌≤◌, Bool, true, false, cond, eqb, List, [], ◌∷◌, length, get_or, take, drop, sym, refl, ap, ◌∙◌, subst, add-one, arith, length-drop}
+use Rattle.std.proofs.Common.{◌≡◌, ℕ, zero, suc, ◌+◌, ◌-◌, ◌<◌, ◌≤◌, Bool, true, false, cond, eqb, List, [], ◌∷◌, length, get_or, take, drop, sym, refl, ap, ◌∙◌, subst, add-one, arith, length-drop, length-take}
 use native.Mathlib.Nat.{sub-zero}
 use Rattle.std.proofs.lemmas.List.{at_drop_more, at_drop_all, take_all, drop_all, take_rest}
 use Rattle.std.proofs.lemmas.Bool.{eq-eqb, ne_eqb}
@@ -68,7 +68,7 @@ first_step : (v : Bool) (x : ℕ) (xs : List ℕ) → get_or (fields xs) 0 [] �
 first_step true x xs ih = refl
 first_step false x xs ih = onto_first x (fields xs) ∙ ap (λ p. x ∷ p) ih
 
-first_is : (s : List ℕ) → get_or (fields s) 0 [] ≡ take (reach 9 s) s
+pub first_is : (s : List ℕ) → get_or (fields s) 0 [] ≡ take (reach 9 s) s
 unfolding pieces reach
 first_is [] = refl
 first_is (x ∷ xs) = first_step (eqb x 9) x xs (first_is xs)
@@ -120,6 +120,9 @@ count_end s i h = at_drop_all (λ t. length (fields t)) s i h
 -- the line and the rest, as the code cuts them
 pub cut_line : (s : List ℕ) (e n : ℕ) → lines s ≡ take e s ∷ lines (drop n s) → lines s ≡ take (e - 0) s ∷ lines (take (length s - n) (drop n s))
 cut_line s e n h = h ∙ ap (λ m. take m s ∷ lines (drop n s)) (sym (sub-zero e)) ∙ ap (λ t. take (e - 0) s ∷ lines t) (sym (take_rest s n))
+
+pub cut_whole : (s : List ℕ) (e n : ℕ) → e ≤ n → length (take (e - 0) s) + length (take (length s - n) (drop n s)) ≤ length s
+cut_whole s e n h = rw (take_rest s n, length-drop n s, length-take (e - 0) s) (omega arith)
 
 pub cut_shorter : (s : List ℕ) (n : ℕ) → 0 < n → 0 < length s → length (take (length s - n) (drop n s)) < length s
 cut_shorter s n h k = rw (take_rest s n, length-drop n s) (omega arith)

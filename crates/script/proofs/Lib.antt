@@ -3,3 +3,5 @@ mod Cuts
 mod Readings
 mod Shows
 mod Lines
+mod Laws
+mod Sizes

@@ -10,7 +10,7 @@ use Rattle.script.specs.Parse.{parsed}
 use Rattle.script.specs.Printing.{printed}
 use Rattle.script.specs.Running.{gives_by, leaves_by, line_text, line_leaves, and_call, calls_of, told_by, told, printed_by}
 
-told_step : {H C : Type 0} (p : Parts H C) (x : State H C) (n : ℕ) (ts : List (List ℕ)) (r : Result Call ScriptFault) → told_by (told ts) n r (results_of p x (and_call r (calls_of ts))) ≡ printed n (gives_by p x r) ++ printed_by p (leaves_by p x r) (n + 1) ts
+pub told_step : {H C : Type 0} (p : Parts H C) (x : State H C) (n : ℕ) (ts : List (List ℕ)) (r : Result Call ScriptFault) → told_by (told ts) n r (results_of p x (and_call r (calls_of ts))) ≡ printed n (gives_by p x r) ++ printed_by p (leaves_by p x r) (n + 1) ts
 told_step p x n ts (Ok c) = refl
 told_step p x n ts (Err e) = refl
 

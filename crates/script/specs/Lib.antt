@@ -5,3 +5,4 @@ pub mod Faults
 pub mod Parse
 pub mod Printing
 pub mod Running
+pub mod Laws

@@ -20,6 +20,7 @@ pub(crate) fn next_line(text: &[u8]) -> (&[u8], &[u8])
     requires { 0 < length text.now }
     ensures lines { lines text.now ≡ result.0.now ∷ lines result.1.now }
     ensures shorter { length result.1.now < length text.now }
+    ensures whole { length result.0.now + length result.1.now ≤ length text.now }
 {
     let end = find(text, b'\n');
     let next = if end < text.len() { end + 1 } else { end };

@@ -1,11 +1,14 @@
-ghost use Rattle.std.specs.Prelude.{◌≡◌};
+ghost use Rattle.std.specs.Prelude.{◌≡◌, Some};
 ghost use Rattle.card.specs.declared.faults.Layer.TheVariants.{Script};
 ghost use Rattle.card.specs.Faults.{refusal};
+ghost use Rattle.card.specs.Words.{tabbed, refusal_fields};
 ghost use Rattle.script.specs.declared.faults.ScriptFault.TheVariants.{Rack};
 ghost use Rattle.script.specs.Faults.{script_refusal};
 
 use card::{Layer, Refusal};
 use rack::RackFault;
+use std::fmt;
+use std::fmt::Display;
 
 /// Why a line, or a whole script, is refused.
 #[derive(Clone, Copy, PartialEq, Eq, Debug)]
@@ -59,5 +62,14 @@ impl ScriptFault {
             ScriptFault::LongScript => by_script(19, 0),
             ScriptFault::Rack(fault) => fault.refusal(),
         }
+    }
+}
+
+// As a script prints it.
+impl fmt::Display for ScriptFault {
+    ghost output = { λ e. Some (tabbed (refusal_fields (script_refusal e))) };
+
+    fn fmt<W: fmt::Write>(&self, f: &mut fmt::Formatter<W>) -> fmt::Result {
+        fmt::Display::fmt(&self.refusal(), f)
     }
 }

@@ -1,6 +1,8 @@
-ghost use Rattle.std.specs.Prelude.{◌≡◌, ◌≤◌, length};
+ghost use Rattle.std.specs.Prelude.{◌≡◌, ◌+◌, ◌<◌, ◌≤◌, length};
 ghost use Rattle.script.specs.Pages.{written, size};
-ghost use Rattle.script.specs.Printing.{after, reached_fields, outcome_fields, refusal_fields, printed};
+ghost use Rattle.card.specs.Words.{after, refusal_fields};
+ghost use Rattle.rack.specs.Words.{reached_fields, outcome_fields};
+ghost use Rattle.script.specs.Printing.{printed, room};
 
 use crate::faults::ScriptFault;
 use crate::page::Page;
@@ -11,6 +13,7 @@ fn show_reached(page: &mut Page, reached: Reached)
     requires { size page.old ≤ 20 }
     ensures text { written page.new ≡ after (written page.old) (reached_fields reached) }
     ensures bound { size page.new ≤ 127 }
+    ensures grows { size page.new ≤ size page.old + 60 }
 {
     match reached {
         Reached::At(side, answer) => {
@@ -18,19 +21,19 @@ fn show_reached(page: &mut Page, reached: Reached)
                 Reply::Byte(vector) => {
                     page.field(b"vector");
                     page.field(side.word().as_bytes());
-                    page.number(answer.source as u64);
-                    page.number(vector as u64);
+                    page.byte(answer.source);
+                    page.byte(vector);
                 }
                 Reply::Outside => {
                     page.field(b"outside");
                     page.field(side.word().as_bytes());
-                    page.number(answer.source as u64);
+                    page.byte(answer.source);
                 }
             }
         }
         Reached::Spurious(vector) => {
             page.field(b"spurious");
-            page.number(vector as u64);
+            page.byte(vector);
         }
     }
 }
@@ -39,12 +42,13 @@ fn show_outcome(page: &mut Page, outcome: Outcome)
     requires { size page.old ≤ 20 }
     ensures text { written page.new ≡ after (written page.old) (outcome_fields outcome) }
     ensures bound { size page.new ≤ 127 }
+    ensures grows { size page.new ≤ size page.old + 60 }
 {
     match outcome {
         Outcome::Drove(driven) => page.field(driven.word().as_bytes()),
         Outcome::Showed(value) => {
             page.field(b"byte");
-            page.number(value as u64);
+            page.byte(value);
         }
         Outcome::Withdrew(withdrawn) => {
             page.field(b"drop");
@@ -54,12 +58,12 @@ fn show_outcome(page: &mut Page, outcome: Outcome)
         Outcome::Took(None) => page.field(b"none"),
         Outcome::Took(Some(level)) => {
             page.field(b"level");
-            page.number(level as u64);
+            page.byte(level);
         }
         Outcome::Answered(reached) => show_reached(page, reached),
         Outcome::Returned(mask) => {
             page.field(b"mask");
-            page.number(mask as u64);
+            page.byte(mask);
         }
         Outcome::Cleared(chain, local) => {
             page.field(b"drop");
@@ -73,17 +77,19 @@ fn show_refusal(page: &mut Page, refusal: Refusal)
     requires { size page.old ≤ 20 }
     ensures text { written page.new ≡ after (written page.old) (refusal_fields refusal) }
     ensures bound { size page.new ≤ 127 }
+    ensures grows { size page.new ≤ size page.old + 24 }
 {
     page.field(b"refused");
-    page.number(refusal.number as u64);
+    page.byte(refusal.number);
     page.field(refusal.layer.word().as_bytes());
-    page.number(refusal.place as u64);
+    page.byte(refusal.place);
 }
 
 // The printed line of a result.
 pub(crate) fn show(number: u64, given: Result<Outcome, ScriptFault>) -> Page
     ensures text { written result ≡ printed number given }
     ensures bound { length (printed number given) ≤ 128 }
+    ensures short { number < 100000 → length (printed number given) ≤ room given }
 {
     let mut page = Page::numbered(number);
     match given {

@@ -1,7 +1,8 @@
-ghost use Rattle.std.specs.Prelude.{◌≡◌, ◌≤◌, ◌++◌, length, IfOk, OnOk};
+ghost use Rattle.std.specs.Prelude.{◌≡◌, ◌+◌, ◌*◌, ◌≤◌, ◌++◌, length, IfOk, OnOk};
 ghost use Rattle.rack.specs.Machine.{parts, view, start};
 ghost use Rattle.script.specs.Pieces.{lines};
 ghost use Rattle.script.specs.Running.{line_gives, line_leaves, line_result, line_output, line_exit, printed_by, ScriptRan};
+ghost use Rattle.script.specs.Laws.{StaysIfRefused, Promises};
 
 use crate::cutting::next_line;
 use crate::faults::ScriptFault;
@@ -15,6 +16,7 @@ use std::alloc::{AllocError, Global};
 pub fn obey<H: Handler, C: Card>(rack: &mut Rack<H, C>, text: &[u8]) -> Result<Outcome, ScriptFault>
     ensures result { result ≡ line_gives (parts H.Card.model H.Handler.noticed C.Card.model) (view rack.old) text.now }
     ensures after { view rack.new ≡ line_leaves (parts H.Card.model H.Handler.noticed C.Card.model) (view rack.old) text.now }
+    ensures refused { StaysIfRefused (view rack.old) result (view rack.new) }
 {
     let call = parse(text)?;
     Ok(rack.step(call)?)
@@ -46,7 +48,8 @@ fn run_lines<H: Handler, C: Card>(
     out: &mut Vec<u8>,
 ) -> Result<(), AllocError>
     requires { length script.now ≤ 65536 }
-    ensures { OnOk result (out.new.items ≡ out.old.items ++ printed_by (parts H.Card.model H.Handler.noticed C.Card.model) (view rack.old) 1 (lines script.now)) }
+    ensures prints { OnOk result (out.new.items ≡ out.old.items ++ printed_by (parts H.Card.model H.Handler.noticed C.Card.model) (view rack.old) 1 (lines script.now)) }
+    ensures bound { OnOk result (length out.new.items ≤ length out.old.items + 32 * length script.now) }
 {
     let mut rest = script;
     let mut number: u64 = 1;
@@ -69,7 +72,8 @@ pub fn run_script<H: Handler + Drop, C: Card + Drop>(
     chain: C,
     script: &[u8],
 ) -> Result<Vec<u8>, AllocError>
-    ensures { IfOk result (λ printed. ScriptRan (parts H.Card.model H.Handler.noticed C.Card.model) (start number handler chain) script.now printed.items) }
+    ensures ran { IfOk result (λ printed. ScriptRan (parts H.Card.model H.Handler.noticed C.Card.model) (start number handler chain) script.now printed.items) }
+    ensures promises { IfOk result (λ printed. Promises (parts H.Card.model H.Handler.noticed C.Card.model) (start number handler chain) script.now printed.items) }
 {
     let mut rack = Rack::new(number, handler, chain);
     let mut out = Vec::new(heap);

@@ -18,6 +18,7 @@ impl Page {
     pub(crate) fn numbered(n: u64) -> Page
         ensures text { written result ≡ decimal n }
         ensures bound { size result ≤ 20 }
+        ensures short { n < 100000 → size result ≤ 5 }
     {
         let mut page = Page::new();
         page.push_number(n);
@@ -81,12 +82,23 @@ impl Page {
         self.push_text(text);
     }
 
+    /// A field that is a number.
     pub(crate) fn number(&mut self, n: u64)
         requires { size self.old ≤ 107 }
         ensures text { written self.new ≡ written self.old ++ 9 ∷ decimal n }
+        ensures len { size self.new ≡ size self.old + 1 + length (decimal n) }
         ensures bound { size self.new ≤ size self.old + 21 }
     {
         self.push(b'\t');
         self.push_number(n);
+    }
+
+    /// A field that is a byte.
+    pub(crate) fn byte(&mut self, n: u8)
+        requires { size self.old ≤ 107 }
+        ensures text { written self.new ≡ written self.old ++ 9 ∷ decimal n }
+        ensures bound { size self.new ≤ size self.old + 4 }
+    {
+        self.number(n as u64);
     }
 }

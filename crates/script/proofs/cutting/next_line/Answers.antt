@@ -1,6 +1,6 @@
-use Rattle.std.proofs.Common.{◌≡◌, ◌<◌, [], ◌∷◌, take, drop, sym, subst, arith}
+use Rattle.std.proofs.Common.{◌≡◌, ◌<◌, ◌≤◌, [], ◌∷◌, take, drop, sym, subst, arith}
 use Rattle.script.specs.Pieces.{lines}
-use Rattle.script.proofs.Cuts.{first_piece, only_line, cut_line, cut_shorter}
+use Rattle.script.proofs.Cuts.{first_piece, only_line, cut_line, cut_whole, cut_shorter}
 use Rattle.script.proofs.cutting.next_line.Goals as goal
 use Rattle.script.proofs.cutting.next_line.Goals.{then-end-text, else-end-text}
 
@@ -19,4 +19,9 @@ returns c =
       | then-end-text w ↦ omega (arith, w.next-is)
       | else-end-text w ↦ omega (arith, w.next-is, w.if-end-text.false)
     ] in
-    record { lines = cut_line s e n cut; shorter = cut_shorter s n some c.requires }
+    let along : e ≤ n =
+    elim c.if-end-text.branch [
+      | then-end-text w ↦ omega (arith, w.next-is)
+      | else-end-text w ↦ omega (arith, w.next-is)
+    ] in
+    record { lines = cut_line s e n cut; shorter = cut_shorter s n some c.requires; whole = cut_whole s e n along }

@@ -1,4 +1,4 @@
-use Rattle.std.proofs.Common.{◌≡◌, ◌+◌, ◌≤◌, ◌++◌, length, vec_items}
+use Rattle.std.proofs.Common.{◌≡◌, ◌+◌, ◌*◌, ◌≤◌, ◌++◌, length, vec_items}
 use Rattle.rack.specs.Machine.{parts, view}
 use Rattle.script.specs.Pieces.{lines}
 use Rattle.script.specs.Running.{printed_by}
@@ -10,6 +10,7 @@ invariant-loop-rest g l =
     (vec_items l.out ++ printed_by (parts g.H.Card.model g.H.Handler.noticed g.C.Card.model) (view l.rack) l.number (lines l.rest)
     ≡ vec_items l.initial.out ++ printed_by (parts g.H.Card.model g.H.Handler.noticed g.C.Card.model) (view l.initial.rack) 1 (lines l.initial.rest))
     × (l.number + length l.rest ≤ 65537)
+    × (length (vec_items l.out) + 32 * length l.rest ≤ length (vec_items l.initial.out) + 32 * length l.initial.rest)
 
 abbrev pub decreases-loop-rest : goal.decreases-loop-rest
 decreases-loop-rest g l = length l.rest

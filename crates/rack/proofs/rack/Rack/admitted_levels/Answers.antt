@@ -1,14 +1,14 @@
-use Rattle.std.proofs.Common.{◌≡◌, false, ◌∙◌, inl, inr, arith}
+use Rattle.std.proofs.Common.{◌≡◌, false, ◌∙◌, subst, inl, inr, arith}
 use Rattle.std.proofs.lemmas.Bool.{cases_Bool}
+use Rattle.bits.proofs.Loops.{gather_start, gather_more, gather_done}
 use Rattle.rack.specs.Machine.{parts, view, admitted}
-use Rattle.rack.proofs.Presents.{gather_start, gather_more, gather_done}
 use Rattle.rack.proofs.rack.Rack.admitted_levels.Goals as goal
 
 pub loop-level-init : goal.loop-level-init
 loop-level-init g c =
     let p = admitted (parts g.H.Card.model g.H.Handler.noticed g.C.Card.model) (view c.args.self.now) in
     let zero-off : p 0 ≡ false = elim (cases_Bool (p 0)) [ inl yes-so ↦ absurd (omega (arith, ((g.met.H.Card.laws.lawful c.args.self.now.handler).marks 0 yes-so).0)) | inr not_so ↦ not_so ] in
-    gather_start p zero-off
+    gather_start p 1 (λ n h. subst (λ m. p m ≡ false) (omega arith) zero-off)
 
 pub loop-level-preserved : goal.loop-level-preserved
 loop-level-preserved g c =

@@ -1,0 +1,74 @@
+-- How much a line prints, beside how long it is.
+use Rattle.std.proofs.Common.{◌≡◌, ℕ, suc, ◌*◌, ◌≤◌, Bool, true, false, cond, eqb, ltb, List, [], ◌∷◌, length, take, Some, None, Ok, Err, Option, Result, sym, refl, ap, ◌∙◌, subst, arith, lit≤, length-take}
+use Rattle.std.specs.Str.{bytes_eq}
+use Rattle.std.proofs.lemmas.Bool.{both_ways, and_parts}
+use Rattle.rack.specs.declared.calls.Call.{Call}
+use Rattle.rack.specs.declared.calls.Outcome.{Outcome}
+use Rattle.rack.specs.declared.faults.RackFault.{RackFault}
+use Rattle.rack.specs.Machine.{Parts, State, rack_gives}
+use Rattle.script.specs.declared.words.Word.{Word}
+use Rattle.script.specs.declared.words.Word.TheVariants.{Line, Local, Put, Get, LocalPut, LocalGet, Mask, Take, Ack, Back, Reset}
+use Rattle.script.specs.declared.faults.ScriptFault.{ScriptFault}
+use Rattle.script.specs.declared.faults.ScriptFault.TheVariants.{LongLine, WrongCount}
+use Rattle.script.specs.Pieces.{fields, reach}
+use Rattle.script.specs.Format.{name, among, words, spelled, arity}
+use Rattle.script.specs.Parse.{field_at, call_of, worded, parsed}
+use Rattle.script.specs.Printing.{room}
+use Rattle.script.specs.Running.{of_rack, gives_by, line_gives}
+use Rattle.script.proofs.Cuts.{first_is}
+
+-- a word has at least three letters
+word_long : (w : Word) → 3 ≤ length (name w)
+word_long Line = lit≤ tt
+word_long Local = lit≤ tt
+word_long Put = lit≤ tt
+word_long Get = lit≤ tt
+word_long LocalPut = lit≤ tt
+word_long LocalGet = lit≤ tt
+word_long Mask = lit≤ tt
+word_long Take = lit≤ tt
+word_long Ack = lit≤ tt
+word_long Back = lit≤ tt
+word_long Reset = lit≤ tt
+
+same_length : (a b : List ℕ) → bytes_eq a b ≡ true → length a ≡ length b
+same_length [] [] h = refl
+same_length [] (y ∷ ys) h = absurd (both_ways false refl h)
+same_length (x ∷ xs) [] h = absurd (both_ways false refl h)
+same_length (x ∷ xs) (y ∷ ys) h = ap suc (same_length xs ys (and_parts (eqb x y) (bytes_eq xs ys) h).1)
+
+among_long : (ws : List Word) (t : List ℕ) (w : Word) → among ws t ≡ Some w → 3 ≤ length t
+among_long [] t w e = let no_way : ◌≡◌ {A = ℕ} 0 1 = cc in absurd (omega arith)
+among_long (v ∷ ws) t w e = go (bytes_eq t (name v)) refl e (among_long ws t w)
+  where
+    go : (b : Bool) → bytes_eq t (name v) ≡ b → cond b (Some v) (among ws t) ≡ Some w → (among ws t ≡ Some w → 3 ≤ length t) → 3 ≤ length t
+    go true same e more = omega (arith, word_long v, same_length t (name v) same)
+    go false same e more = more e
+
+-- so a line that makes a call has at least three bytes
+parsed_long : (t : List ℕ) (c : Call) → parsed t ≡ Ok c → 3 ≤ length t
+unfolding parsed
+parsed_long t c e = go (ltb 80 (length t)) e
+  where
+    within : 3 ≤ length (field_at (fields t) 0) → 3 ≤ length t
+    within h = omega (arith, ap length (first_is t), length-take (reach 9 t) t)
+
+    worded_long : (o : Option Word) → spelled (field_at (fields t) 0) ≡ o → worded o (fields t) ≡ Ok c → 3 ≤ length t
+    worded_long None q e = let no_way : ◌≡◌ {A = ℕ} 0 1 = cc in absurd (omega arith)
+    worded_long (Some w) q e = within (among_long words (field_at (fields t) 0) w q)
+
+    go : (b : Bool) → cond b (Err LongLine) (worded (spelled (field_at (fields t) 0)) (fields t)) ≡ Ok c → 3 ≤ length t
+    go true e = let no_way : ◌≡◌ {A = ℕ} 0 1 = cc in absurd (omega arith)
+    go false e = worded_long (spelled (field_at (fields t) 0)) refl e
+
+-- what a line prints has room in 32 times the k bytes that it takes up in its script
+pub line_room : {H C : Type 0} (p : Parts H C) (x : State H C) (t : List ℕ) (k : ℕ) → 1 ≤ k → length t ≤ k → room (line_gives p x t) ≤ 32 * k
+line_room p x t k one le = go (parsed t) refl
+  where
+    any : (r : Result Outcome RackFault) → room (of_rack r) ≤ 96
+    any (Ok o) = omega arith
+    any (Err e) = omega arith
+
+    go : (r : Result Call ScriptFault) → parsed t ≡ r → room (gives_by p x r) ≤ 32 * k
+    go (Err e) q = omega arith
+    go (Ok c) q = omega (arith, any (rack_gives p x c), parsed_long t c q)
