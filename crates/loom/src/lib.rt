@@ -2,7 +2,8 @@
 #![tactic(auto)]
 
 ghost use Rattle.std.specs.Prelude.{IfOk};
-ghost use Rattle.loom.specs.Rack.{LoomRan};
+ghost use Rattle.script.specs.Laws.{Promises};
+ghost use Rattle.loom.specs.Rack.{loom_parts, loom_start, LoomRan};
 
 use joined::Joined;
 use mc68153::Mc68153;
@@ -12,7 +13,8 @@ use std::alloc::{AllocError, Global};
 /// Runs a whole script on a new rack. Gives what it prints, unless there is no memory for that. The law over every run holds of the calls
 /// that the script made.
 pub fn run(heap: Global, script: &[u8]) -> Result<Vec<u8>, AllocError>
-    ensures { IfOk result (λ printed. LoomRan script.now printed.items) }
+    ensures ran { IfOk result (λ printed. LoomRan script.now printed.items) }
+    ensures promises { IfOk result (λ printed. Promises loom_parts loom_start script.now printed.items) }
 {
     let chain = Joined {
         front: Mc68153::new(),

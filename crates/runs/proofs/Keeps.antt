@@ -95,7 +95,7 @@ module _ {H C : Type 0} (p : Parts H C) (x : State H C) where
   fit_refused (Return d) e = done_refused _ e
   fit_refused Reset e = done_refused _ e
 
-  refused_whole : (c : Call) → RefusedWhole (turn_of (rack_gives p) (rack_leaves p) x c)
+  pub refused_whole : (c : Call) → RefusedWhole (turn_of (rack_gives p) (rack_leaves p) x c)
   refused_whole c e = by_size p x c (λ r y. r ≡ Err e → y ≡ x) (λ h. refl) (fit_refused c e)
 
 pub run_keeps : {H C : Type 0} (p : Parts H C) → Laws p.handler → NoticeLaw p.handler p.noticed → Laws p.chain → (number : ℕ) (h : H) (c : C) (calls : List Call) → NoEdges p (start number h c) → RunKeeps p (start number h c) calls

@@ -11,11 +11,15 @@ use Rattle.script.specs.declared.words.Word.TheVariants.{Line, Local, Put, Get, 
 use Rattle.script.specs.declared.faults.ScriptFault.{ScriptFault}
 use Rattle.script.specs.declared.faults.ScriptFault.TheVariants.{LongLine, WrongCount}
 use Rattle.script.specs.Pieces.{fields, reach}
-use Rattle.script.specs.Format.{name, among, words, spelled, arity}
+use Rattle.script.specs.Format.{name, among, spelled, arity}
 use Rattle.script.specs.Parse.{field_at, call_of, worded, parsed}
 use Rattle.script.specs.Printing.{room}
 use Rattle.script.specs.Running.{of_rack, gives_by, line_gives}
 use Rattle.script.proofs.Cuts.{first_is}
+
+-- the words that `spelled` knows
+abbrev words : List Word
+words = Line ∷ Local ∷ Put ∷ Get ∷ LocalPut ∷ LocalGet ∷ Mask ∷ Take ∷ Ack ∷ Back ∷ Reset ∷ []
 
 -- a word has at least three letters
 word_long : (w : Word) → 3 ≤ length (name w)

@@ -8,6 +8,12 @@ mod mc68153_examples;
 #[cfg(test)]
 mod rack_examples;
 #[cfg(test)]
+mod scb68155_examples;
+#[cfg(test)]
 mod script_examples;
+#[cfg(test)]
+mod steps;
+#[cfg(test)]
+mod usc68hc908_examples;
 
 pub use clients::{Stopped, serve_once};

@@ -1,4 +1,5 @@
 use script::parse;
+use std::test::Fail;
 
 // How a line is refused: the fault's number, or 0 where it is not.
 fn refused(text: &[u8]) -> u8 {
@@ -25,4 +26,14 @@ fn faults_go_by_rising_number(rt: HostRuntime) {
     assert_eq!(rt; refused(b"line\t1\t2"), 13);
     assert_eq!(rt; refused(b"get\t0001"), 13);
     assert_eq!(rt; refused(b"get\t\r"), 13);
+}
+
+#[test]
+fn results_and_faults_display_as_they_are_printed(rt: HostRuntime) -> Result<(), Fail> {
+    let heap = rt.alloc();
+    let fault = script::ScriptFault::BadField(3);
+    let outcome = rack::Outcome::Took(Some(4));
+    assert!(rt; format!(in heap; "{fault}")?.as_bytes() == b"refused\t13\tscript\t3".as_slice());
+    assert!(rt; format!(in heap; "{outcome}")?.as_bytes() == b"level\t4".as_slice());
+    Ok(())
 }

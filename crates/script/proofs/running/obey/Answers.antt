@@ -12,9 +12,9 @@ returns-in_err-step g c =
     let x = view c.args.rack.now in
     let t = c.args.text.now in
     let result : c.from_residual-in_err-step.result ≡ line_gives p x t = search rules in
-    let after : view c.step.new.rack ≡ line_leaves p x t = search rules in
+    let after : view c.step.new.self ≡ line_leaves p x t = search rules in
     record {
       result = result;
       after = after;
-      refused = subst (λ r. StaysIfRefused x r (view c.step.new.rack)) (sym result) (subst (λ y. StaysIfRefused x (line_gives p x t) y) (sym after) (line_stays p x (parsed t)));
+      refused = subst (λ r. StaysIfRefused x r (view c.step.new.self)) (sym result) (subst (λ y. StaysIfRefused x (line_gives p x t) y) (sym after) (line_stays p x (parsed t)));
     }
