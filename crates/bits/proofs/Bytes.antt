@@ -3,7 +3,7 @@ use Rattle.std.proofs.Common.{◌≡◌, ℕ, zero, suc, ◌-◌, ◌*◌, ◌/�
 use lib.Bits.{bit_and, bit_or, and_shr, or_shr, and_mod, or_mod}
 use Rattle.std.proofs.lemmas.Nat.{mod_below}
 use Rattle.std.proofs.lemmas.Bool.{cases_eq, ne_eqb}
-use Rattle.card.specs.Bits.{bit, bits_of}
+use Rattle.card.specs.Bits.{bit}
 use Rattle.card.proofs.Bitwise.{bits_same, bits_none, bits_below, bit_of, own_bits}
 use lib.Count.{count_leading_zeros}
 use Rattle.bits.specs.Bytes.{byte, put, both, only, highest}

@@ -1,5 +1,5 @@
 -- A loop that gathers a test into a byte, one over the sources that gathers the levels asked, and one that finds the source to answer.
-use Rattle.std.proofs.Common.{◌≡◌, ℕ, suc, ◌+◌, ◌-◌, ◌<◌, ◌≤◌, Bool, true, false, cond, ◌&&◌, ◌||◌, eqb, ltb, Some, sym, refl, ap, ◌∙◌, subst, ap₂, inl, inr, add-one, arith}
+use Rattle.std.proofs.Common.{◌≡◌, ℕ, suc, ◌+◌, ◌<◌, ◌≤◌, Bool, true, false, cond, ◌&&◌, ◌||◌, eqb, ltb, Some, sym, refl, ap, ◌∙◌, subst, ap₂, inl, inr, add-one, arith}
 use Rattle.std.proofs.lemmas.Bool.{cases_lt, cases_eq, cases_order, both_ways, lt-ltb, le-ltb, eq-eqb, ne_eqb}
 use Rattle.card.specs.Source.{Source, asking, asking_at, any_asks, pick}
 use Rattle.card.specs.Bits.{bit}

@@ -1,5 +1,5 @@
 -- `pick` finds the source of smallest rank, and there is one such at most: for all ranks.
-use Rattle.std.proofs.Common.{◌≡◌, ℕ, zero, suc, ◌-◌, ◌<◌, ◌≤◌, Bool, true, false, cond, ◌||◌, ltb, Some, None, Option, refl, ap, subst, ap₂, inl, inr, arith}
+use Rattle.std.proofs.Common.{◌≡◌, ℕ, zero, suc, ◌<◌, ◌≤◌, Bool, true, false, cond, ◌||◌, ltb, Some, None, Option, refl, ap, subst, ap₂, inl, inr, arith}
 use Rattle.std.proofs.lemmas.Bool.{cases_lt, cases_eq, both_ways, ltb-true, ltb-false}
 use Rattle.card.specs.Source.{Source, asking_at, Smallest, Nobody, Chosen, any_asks, better, pick}
 

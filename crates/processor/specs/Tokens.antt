@@ -2,7 +2,7 @@
 use Rattle.std.specs.Prelude.{ℕ, suc, Bool, false, cond, ◌&&◌, length, Some, None, Ok, Err, Option, Result, ◌==◌}
 use Rattle.processor.specs.declared.state.State.{State}
 use Rattle.processor.specs.declared.state.State.TheVariants.{Idle, Taken}
-use Rattle.processor.specs.declared.state.ProcessorCall.TheVariants.{Take, Acknowledge, Return}
+use Rattle.processor.specs.declared.state.ProcessorCall.TheVariants.{Acknowledge, Return}
 use Rattle.processor.specs.declared.state.Done.{Done}
 use Rattle.processor.specs.declared.state.Done.TheVariants.{Took, Opened, Returned, Masked, WasReset}
 use Rattle.processor.specs.declared.state.ProcessorFault.{ProcessorFault}

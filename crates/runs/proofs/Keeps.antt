@@ -1,5 +1,5 @@
 -- The law over every run.
-use Rattle.std.proofs.Common.{◌≡◌, ℕ, ◌+◌, List, [], ◌∷◌, ◌++◌, Some, None, Ok, Err, Option, Result, sym, refl, ap, ◌∙◌, subst, append_assoc, arith}
+use Rattle.std.proofs.Common.{◌≡◌, ℕ, List, [], ◌∷◌, ◌++◌, Some, None, Ok, Err, Option, Result, sym, refl, ap, ◌∙◌, subst, append_assoc, arith}
 use Rattle.card.specs.declared.faults.CardFault.{CardFault}
 use Rattle.card.specs.Model.{unless_refused, changed_unless, drive_fault, write_fault}
 use Rattle.card.specs.Laws.{Laws, NoticeLaw}

@@ -13,10 +13,9 @@ use Rattle.card.specs.Withdrawing.{told}
 use Rattle.card.specs.Meaning.{driving, lost}
 use Rattle.card.specs.Model.{unless_refused, changed_unless, reading, write_fault, drive_result, drive_exit, read_result, write_result, write_exit, answer_result, answer_exit, reset_result, levels_asked}
 use Rattle.card.proofs.Picks.{any_none, any_some}
-use Rattle.bits.specs.Bytes.{byte}
 use Rattle.bits.proofs.Bytes.{is_byte, bit_of_and, bit_byte, bit_zero, byte_below}
 use Rattle.latches.specs.declared.Latches.{Latches}
-use Rattle.latches.specs.Latching.{latches, input_source, pending_inputs, driven, keeping, loses}
+use Rattle.latches.specs.Latching.{input_source, pending_inputs, driven, keeping, loses}
 use Rattle.latches.proofs.Rules.{pick_highest, pick_none, told_lost, keeping_none}
 use Rattle.scb68155.specs.declared.registers.Registers.{Registers}
 use Rattle.scb68155.specs.declared.Scb68155.{Scb68155}

@@ -1,4 +1,5 @@
 -- What the registers keep of a byte, the control register that R0 names, and what a read or a write of a register gives.
+-- Proofs, and nothing to believe: they stand in specs/ since an impl can cite no other folder of its crate for its law.
 use Rattle.std.specs.Prelude.{◌≡◌, ℕ, ◌<◌, ◌≤◌, Bool, true, false, cond, ◌&&◌, Some, None, Ok, Err, Option, Result, bit_and, nat_le, nat_lt, refl}
 use Rattle.std.proofs.Common.{sym, ap, ap₂, subst, ◌∙◌, inl, inr, arith}
 use Rattle.std.proofs.lemmas.Bool.{cases_lt, and_parts, and_left, and_right, leb-true, le-leb, lt-leb}

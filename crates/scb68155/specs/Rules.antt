@@ -1,4 +1,5 @@
 -- The SCB68155 keeps the rules of a card and of a handler.
+-- Proofs, and nothing to believe: they stand in specs/ since an impl can cite no other folder of its crate for its law.
 use Rattle.std.specs.Prelude.{◌≡◌, ℕ, ◌+◌, ◌<◌, Bool, true, false, cond, ◌&&◌, ◌||◌, Some, None, Option, ◌==◌, nat_le, refl}
 use Rattle.std.proofs.Common.{sym, subst, arith}
 use Rattle.std.proofs.lemmas.Bool.{and_parts, and_right, leb-true, eqb-true}

@@ -12,7 +12,7 @@ use Rattle.card.specs.declared.faults.Layer.{Layer}
 use Rattle.card.specs.declared.faults.Layer.TheVariants.{Script, Rack as RackLayer, Card as CardLayer}
 use Rattle.card.specs.declared.faults.CardFault.{CardFault}
 use Rattle.card.specs.declared.faults.CardFault.TheVariants.{Oversize, NoSource, NoRegister, NoAccess, BadLevel, NoControl}
-use Rattle.card.specs.Words.{drive_word, layer_word, after, refusal_fields}
+use Rattle.card.specs.Words.{drive_word, layer_word, after}
 use Rattle.card.specs.Source.{Source}
 use Rattle.card.specs.Model.{drive_result, read_result, write_result}
 use Rattle.card.specs.Withdrawing.{first_word}
@@ -30,18 +30,17 @@ use Rattle.rack.specs.declared.calls.Outcome.{Outcome}
 use Rattle.rack.specs.declared.calls.Outcome.TheVariants.{Drove, Showed, Withdrew}
 use Rattle.rack.specs.declared.faults.RackFault.{RackFault}
 use Rattle.rack.specs.declared.faults.RackFault.TheVariants.{Card, Processor}
-use Rattle.rack.specs.Machine.{Parts, State, reached_by, reached, source_at, chosen_at, admitted, bus_lines, presented, done_gives, fit_gives, rack_gives, rack_leaves}
+use Rattle.rack.specs.Machine.{Parts, State, reached_by, source_at, chosen_at, admitted, bus_lines, presented, done_gives, fit_gives, rack_gives, rack_leaves}
 use Rattle.rack.specs.Words.{side_word, reached_fields}
 use Rattle.runs.proofs.Edges.{by_size}
 use Rattle.runs.proofs.Keeps.{refused_whole}
 use Rattle.script.specs.declared.faults.ScriptFault.{ScriptFault}
 use Rattle.script.specs.declared.faults.ScriptFault.TheVariants.{ShortOutput, LongLine, UnknownWord, WrongCount, BadField, LongScript, Rack}
-use Rattle.script.specs.Faults.{script_refusal}
 use Rattle.script.specs.Pieces.{onto, pieces, lines}
 use Rattle.script.specs.Parse.{parsed}
 use Rattle.script.specs.Printing.{result_fields, printed}
 use Rattle.script.specs.Running.{of_rack, gives_by, leaves_by, line_gives, line_leaves, printed_by, too_long, output}
-use Rattle.script.specs.Laws.{Listed, by_script, by_card, bad_mask, long_script, no_control, by_processor, Form, drive_form, drop_form, byte_form, ok_form, level_form, none_form, vector_form, outside_form, spurious_form, mask_form, drops_form, refused_form, StaysIfRefused, Tells, LineByLine, Promises}
+use Rattle.script.specs.Laws.{by_script, by_card, bad_mask, long_script, no_control, by_processor, Form, drive_form, drop_form, byte_form, ok_form, level_form, none_form, vector_form, outside_form, spurious_form, mask_form, drops_form, refused_form, StaysIfRefused, LineByLine, Promises}
 use Rattle.script.proofs.Lines.{told_step}
 
 -- A text with no byte 10.

@@ -1,5 +1,5 @@
 -- How much a line prints, beside how long it is.
-use Rattle.std.proofs.Common.{◌≡◌, ℕ, suc, ◌*◌, ◌≤◌, Bool, true, false, cond, eqb, ltb, List, [], ◌∷◌, length, take, Some, None, Ok, Err, Option, Result, sym, refl, ap, ◌∙◌, subst, arith, lit≤, length-take}
+use Rattle.std.proofs.Common.{◌≡◌, ℕ, suc, ◌*◌, ◌≤◌, Bool, true, false, cond, eqb, ltb, List, [], ◌∷◌, length, Some, None, Ok, Err, Option, Result, refl, ap, arith, lit≤, length-take}
 use Rattle.std.specs.Str.{bytes_eq}
 use Rattle.std.proofs.lemmas.Bool.{both_ways, and_parts}
 use Rattle.rack.specs.declared.calls.Call.{Call}
@@ -9,10 +9,10 @@ use Rattle.rack.specs.Machine.{Parts, State, rack_gives}
 use Rattle.script.specs.declared.words.Word.{Word}
 use Rattle.script.specs.declared.words.Word.TheVariants.{Line, Local, Put, Get, LocalPut, LocalGet, Mask, Take, Ack, Back, Reset}
 use Rattle.script.specs.declared.faults.ScriptFault.{ScriptFault}
-use Rattle.script.specs.declared.faults.ScriptFault.TheVariants.{LongLine, WrongCount}
+use Rattle.script.specs.declared.faults.ScriptFault.TheVariants.{LongLine}
 use Rattle.script.specs.Pieces.{fields, reach}
-use Rattle.script.specs.Format.{name, among, spelled, arity}
-use Rattle.script.specs.Parse.{field_at, call_of, worded, parsed}
+use Rattle.script.specs.Format.{name, among, spelled}
+use Rattle.script.specs.Parse.{field_at, worded, parsed}
 use Rattle.script.specs.Printing.{room}
 use Rattle.script.specs.Running.{of_rack, gives_by, line_gives}
 use Rattle.script.proofs.Cuts.{first_is}

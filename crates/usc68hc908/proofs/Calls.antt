@@ -2,7 +2,6 @@
 use Rattle.std.proofs.Common.{◌≡◌, ℕ, ◌+◌, ◌-◌, ◌<◌, ◌≤◌, Bool, true, false, cond, not, ◌&&◌, eqb, ltb, Some, None, Ok, sym, refl, ap, ◌∙◌, ap₂, inl, inr, arith}
 use Rattle.std.proofs.lemmas.Bool.{cases_eq, and_right, and_from, lt-ltb, eq-eqb, ne_eqb, le-leb}
 use Rattle.card.specs.declared.outcomes.Driven.{Driven}
-use Rattle.card.specs.declared.outcomes.Answer.{Answer}
 use Rattle.card.specs.declared.outcomes.Reply.TheVariants.{Byte}
 use Rattle.card.specs.declared.withdrawn.Withdrawn.{Withdrawn}
 use Rattle.card.specs.Source.{asking_at, any_asks, pick}
@@ -15,10 +14,10 @@ use Rattle.card.proofs.Bitwise.{bits_same, bits_none}
 use Rattle.bits.specs.Bytes.{put, both, highest}
 use Rattle.bits.proofs.Bytes.{bit_zero, highest_le, highest_holds, highest_last}
 use Rattle.latches.specs.declared.Latches.{Latches}
-use Rattle.latches.specs.Latching.{Settings, latches, input_source, driven, released, keeping, loses}
+use Rattle.latches.specs.Latching.{input_source, driven, released, keeping, loses}
 use Rattle.latches.proofs.Rules.{pick_highest, pick_none, keeping_none, told_lost, none_lost}
 use Rattle.usc68hc908.specs.declared.Usc68hc908.{Usc68hc908}
-use Rattle.usc68hc908.specs.Sheet.{usc, level_of, odd, odd_channels, channels, base_of, opens, pends, asks, if_any, chosen_channel, settings, sources, cleared, with_imr, with_ier, with_ivr, with_isr, writes, drives, serves, usc68hc908_model}
+use Rattle.usc68hc908.specs.Sheet.{usc, level_of, odd, odd_channels, channels, base_of, asks, if_any, chosen_channel, settings, sources, cleared, with_imr, with_ier, with_ivr, with_isr, writes, usc68hc908_model}
 use Rattle.usc68hc908.specs.Parts.{odd_is}
 
 pub read_imr : (x : Usc68hc908) (r l v : ℕ) → r ≡ 1 → v ≡ channels x.imr → Ok v ≡ read_result usc68hc908_model x r l

@@ -1,4 +1,5 @@
 -- The bytes and the channel that the parts of the USC68HC908 work out.
+-- Proofs, and nothing to believe: they stand in specs/ since an impl can cite no other folder of its crate for its law.
 use Rattle.std.specs.Prelude.{◌≡◌, ℕ, zero, suc, ◌<◌, ◌≤◌, Bool, true, false, cond, ◌&&◌, ◌||◌, ltb, Some, None, nat_lt, refl}
 use Rattle.std.proofs.Common.{sym, ap, ap₂, ◌∙◌, inl, inr, arith}
 use Rattle.std.specs.Int.Bits.{bit_and, bit_or}
@@ -6,12 +7,11 @@ use Rattle.std.specs.Int.Count.{ones}
 use Rattle.std.proofs.lemmas.Nat.{and_le_l}
 use Rattle.std.proofs.lemmas.Bool.{cases_lt, lt-ltb, le-ltb, and_left, and_right, both_ways, ne_eqb}
 use Rattle.card.specs.Bits.{bit}
-use Rattle.card.specs.Runs.{one}
-use Rattle.bits.specs.Bytes.{byte, only, highest}
+use Rattle.bits.specs.Bytes.{only, highest}
 use Rattle.bits.proofs.Bytes.{bit_of_and, bit_of_or, bit_byte, byte_below, is_byte, mask_of, masked, by_bytes, highest_le, highest_holds, highest_last, highest_at}
 use Rattle.latches.specs.Latching.{pending_inputs}
 use Rattle.usc68hc908.specs.declared.Usc68hc908.{Usc68hc908}
-use Rattle.usc68hc908.specs.Sheet.{odd, channels, pends, ipr, in_service, idle_from, opens, asks, if_any, chosen_channel, how_many}
+use Rattle.usc68hc908.specs.Sheet.{odd, channels, pends, ipr, in_service, idle_from, asks, if_any, chosen_channel, how_many}
 
 pub channels_is : (x : ℕ) → x < 256 → bit_and x 254 ≡ channels x
 channels_is = masked 254 (λ c. ltb 0 c) tt

@@ -1,4 +1,5 @@
 -- The USC68HC908 keeps the card rules.
+-- Proofs, and nothing to believe: they stand in specs/ since an impl can cite no other folder of its crate for its law.
 use Rattle.std.specs.Prelude.{◌≡◌, ℕ, ◌+◌, ◌<◌, ◌≤◌, Bool, true, false, cond, ◌&&◌, Some, None, Option, ◌==◌, nat_lt, refl}
 use Rattle.std.proofs.Common.{sym, subst, inl, inr, arith}
 use Rattle.std.proofs.lemmas.Bool.{cases_eq, cond_both, and_parts, and_right, both_ways, eq-eqb, ne_eqb, ltb-true}
@@ -11,7 +12,7 @@ use Rattle.card.proofs.Picks.{picked}
 use Rattle.bits.proofs.Bytes.{bit_zero}
 use Rattle.latches.proofs.Rules.{ranks_differ, drive_this, drive_other, release_this, release_other, keeping_held}
 use Rattle.usc68hc908.specs.declared.Usc68hc908.{Usc68hc908}
-use Rattle.usc68hc908.specs.Sheet.{level_of, odd, settings, sources, cleared, with_imr, with_ier, with_ivr, with_isr, writes, serves, usc68hc908_model}
+use Rattle.usc68hc908.specs.Sheet.{odd, settings, sources, cleared, with_imr, with_ier, with_ivr, with_isr, writes, serves, usc68hc908_model}
 use Rattle.usc68hc908.specs.Parts.{odd_is}
 
 own_refusal : (r : ℕ) (e : CardFault) → ◌≡◌ {A = Option CardFault} (cond (r == 0) (Some (NoAccess 0)) None) (Some e) → Own r e

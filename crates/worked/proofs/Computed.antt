@@ -1,5 +1,5 @@
 -- The worked examples, by computation.
-use Rattle.std.proofs.Common.{◌≡◌, ℕ, zero, suc, ◌<◌, refl, arith}
+use Rattle.std.proofs.Common.{ℕ, zero, suc, ◌<◌, refl, arith}
 use Rattle.card.specs.Source.{asking_at, any_asks, pick}
 use Rattle.card.specs.Bits.{bits_of}
 use Rattle.card.specs.Withdrawing.{told, nobody}

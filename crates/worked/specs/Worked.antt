@@ -16,11 +16,11 @@ use Rattle.mc68153.specs.Sheet.{mc68153_model, fresh as fresh_mc68153}
 use Rattle.usc68hc908.specs.declared.Usc68hc908.{Usc68hc908}
 use Rattle.usc68hc908.specs.Sheet.{usc68hc908_model, fresh as fresh_usc68hc908}
 use Rattle.scb68155.specs.Sheet.{scb68155_model, fresh as fresh_scb68155}
-use Rattle.rack.specs.declared.calls.Side.TheVariants.{Local, Chain}
+use Rattle.rack.specs.declared.calls.Side.TheVariants.{Chain}
 use Rattle.rack.specs.declared.calls.Call.{Call}
 use Rattle.rack.specs.declared.calls.Call.TheVariants.{Drive as DriveSide, Write as WriteSide, Mask, Take, Acknowledge}
 use Rattle.rack.specs.declared.calls.Reached.TheVariants.{Spurious}
-use Rattle.rack.specs.declared.calls.Outcome.TheVariants.{Drove as DroveSide, Withdrew as WithdrewSide, Masked, Took, Answered as AnsweredBy}
+use Rattle.rack.specs.declared.calls.Outcome.TheVariants.{Drove as DroveSide, Masked, Took, Answered as AnsweredBy}
 use Rattle.rack.specs.Machine.{presented}
 use Rattle.runs.specs.Turns.{results_of, end_of_run}
 use Rattle.loom.specs.Rack.{loom_parts, loom_start}

@@ -1,5 +1,4 @@
 use Rattle.std.proofs.Common.{rules}
-use Rattle.card.specs.Withdrawing.{told}
 use Rattle.card.proofs.Withdrawals.{stored, told_byte}
 use Rattle.card.proofs.withdrawn.Withdrawn.from_byte.Goals as goal
 
