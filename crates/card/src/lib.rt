@@ -13,5 +13,3 @@ pub use faults::{CardFault, Layer, Refusal};
 pub use interface::{Card, Handler, is_oversize};
 pub use outcomes::{Answer, Driven, Reply};
 pub use withdrawn::Withdrawn;
-
-// The comparisons and the debug output of these types, for tests.

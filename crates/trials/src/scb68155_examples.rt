@@ -71,6 +71,23 @@ fn level_sort_withdraws_a_held_edge(rt: HostRuntime) {
 }
 
 #[test]
+fn an_asserted_line_is_a_request_again_once_it_is_of_level_sort(rt: HostRuntime) {
+    follow(
+        &rt,
+        &mut Scb68155::new(),
+        &[
+            write(0, 3, 0),
+            write(1, 6, 0),
+            drive(2, true, Driven::Latched),
+            write(1, 0, 4),
+            read(4, Ok(8)),
+            write(1, 2, 0),
+            read(4, Ok(0)),
+        ],
+    );
+}
+
+#[test]
 fn bus_lines_are_shown_and_a_notice_sets_r7(rt: HostRuntime) {
     let mut chip = Scb68155::new();
     follow(
@@ -80,6 +97,7 @@ fn bus_lines_are_shown_and_a_notice_sets_r7(rt: HostRuntime) {
             write(5, 255, 0),
             read(5, Ok(254)),
             read_with(6, 255, Ok(254)),
+            read_with(6, 131, Ok(130)),
         ],
     );
     assert!(rt; chip.admits(7));
