@@ -6,7 +6,6 @@ ghost use Rattle.processor.specs.Faults.{processor_refusal};
 
 use card::{Layer, Refusal};
 use std::fmt;
-use std::fmt::Display;
 
 /// What a processor is about: nothing, or a level that it has taken and not acknowledged yet.
 #[derive(Clone, Copy)]

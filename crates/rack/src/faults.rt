@@ -6,7 +6,6 @@ ghost use Rattle.card.specs.Words.{tabbed, refusal_fields};
 use card::{CardFault, Refusal};
 use processor::ProcessorFault;
 use std::fmt;
-use std::fmt::Display;
 
 /// Why a rack refuses a call: the fault of a card or of the processor, carried whole.
 #[derive(Clone, Copy, PartialEq, Eq, Debug)]

@@ -8,7 +8,6 @@ ghost use Rattle.script.specs.Faults.{script_refusal};
 use card::{Layer, Refusal};
 use rack::RackFault;
 use std::fmt;
-use std::fmt::Display;
 
 /// Why a line, or a whole script, is refused.
 #[derive(Clone, Copy, PartialEq, Eq, Debug)]
