@@ -2,3 +2,4 @@ pub mod Picks
 pub mod Bitwise
 pub mod Withdrawals
 pub mod Balances
+pub mod Refusing

@@ -7,8 +7,8 @@ use crate::interface::Card;
 use crate::outcomes::{Answer, Driven};
 use crate::withdrawn::Withdrawn;
 
-/// A call of a card.
-#[derive(Clone, Copy)]
+/// A call of a card. Calls are data: the law over every run is about lists of them.
+#[derive(Clone, Copy, PartialEq, Eq, Debug)]
 pub enum CardCall {
     Drive { source: u8, asserted: bool },
     Read { register: u8, lines: u8 },
@@ -18,7 +18,7 @@ pub enum CardCall {
 }
 
 /// What a call of a card gave.
-#[derive(Clone, Copy, PartialEq, Eq)]
+#[derive(Clone, Copy, PartialEq, Eq, Debug)]
 pub enum CardResult {
     Drove(Result<Driven, CardFault>),
     Showed(Result<u8, CardFault>),

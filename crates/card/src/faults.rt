@@ -1,7 +1,8 @@
 ghost use Rattle.std.specs.Prelude.{◌≡◌, Some};
-ghost use Rattle.card.specs.Faults.{card_refusal};
+ghost use Rattle.card.specs.Faults.{refusal, card_refusal};
 ghost use Rattle.card.specs.Words.{layer_word, tabbed, refusal_fields};
 
+use std::error::Error;
 use std::fmt;
 
 /// The layer that refused a call.
@@ -23,6 +24,25 @@ impl Layer {
             Layer::Card => "card",
         }
     }
+
+    /// A refusal at this layer.
+    pub fn refusal(self, number: u8, place: u8) -> Refusal
+        ensures { result ≡ refusal number self place }
+    {
+        Refusal {
+            number,
+            layer: self,
+            place,
+        }
+    }
+}
+
+impl fmt::Display for Layer {
+    ghost output = { λ l. Some (layer_word l) };
+
+    fn fmt<W: fmt::Write>(&self, f: &mut fmt::Formatter<W>) -> fmt::Result {
+        f.write_str(self.word())
+    }
 }
 
 /// A fault as it is told: its number, the layer that refused, and the place.
@@ -38,9 +58,11 @@ impl fmt::Display for Refusal {
     ghost output = { λ r. Some (tabbed (refusal_fields r)) };
 
     fn fmt<W: fmt::Write>(&self, f: &mut fmt::Formatter<W>) -> fmt::Result {
-        let number = self.number;
-        let layer = self.layer.word();
-        let place = self.place;
+        let Refusal {
+            number,
+            layer,
+            place,
+        } = self;
         write!(f, "refused\t{number}\t{layer}\t{place}")
     }
 }
@@ -62,12 +84,12 @@ pub enum CardFault {
     NoControl(u8),
 }
 
-impl CardFault {
-    /// The fault's number, layer and place.
-    pub fn refusal(self) -> Refusal
-        ensures { result ≡ card_refusal self }
-    {
-        let (number, place) = match self {
+// The fault's number, layer and place.
+impl From<CardFault> for Refusal {
+    ghost from_gives = { λ fault r. r ≡ card_refusal fault };
+
+    fn from(fault: CardFault) -> Refusal {
+        let (number, place) = match fault {
             CardFault::Oversize => (14, 0),
             CardFault::NoSource(source) => (15, source),
             CardFault::NoRegister(register) => (16, register),
@@ -75,11 +97,7 @@ impl CardFault {
             CardFault::BadLevel(level) => (18, level),
             CardFault::NoControl(control) => (20, control),
         };
-        Refusal {
-            number,
-            layer: Layer::Card,
-            place,
-        }
+        Layer::Card.refusal(number, place)
     }
 }
 
@@ -87,6 +105,8 @@ impl fmt::Display for CardFault {
     ghost output = { λ e. Some (tabbed (refusal_fields (card_refusal e))) };
 
     fn fmt<W: fmt::Write>(&self, f: &mut fmt::Formatter<W>) -> fmt::Result {
-        fmt::Display::fmt(&self.refusal(), f)
+        fmt::Display::fmt(&Refusal::from(*self), f)
     }
 }
+
+impl Error for CardFault {}

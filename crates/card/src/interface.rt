@@ -1,5 +1,5 @@
-ghost use Rattle.std.specs.Prelude.{◌≡◌, ℕ, ◌||◌};
-ghost use Rattle.card.specs.Model.{Model, oversize, capped_sources, capped_registers, drive_result, drive_exit, read_result, write_result, write_exit, answer_result, answer_exit, reset_result, reset_exit, levels_asked};
+ghost use Rattle.std.specs.Prelude.{◌≡◌, ℕ, None};
+ghost use Rattle.card.specs.Model.{Model, oversize, size_first, level_fault, unless_refused, capped_sources, capped_registers, drive_result, drive_exit, read_result, write_result, write_exit, answer_result, answer_exit, reset_result, reset_exit, levels_asked};
 ghost use Rattle.card.specs.Laws.{Laws, NoticeLaw};
 
 use crate::faults::CardFault;
@@ -73,4 +73,24 @@ pub fn is_oversize<C: Card>() -> bool
     ensures { result ≡ oversize C.Card.model }
 {
     C::source_count() > 64 || C::register_count() > 64
+}
+
+/// Refuses where a kind of card has over 64 sources or over 64 registers.
+pub fn check_size<C: Card>() -> Result<(), CardFault>
+    ensures { result ≡ unless_refused (size_first C.Card.model None) tt }
+{
+    if is_oversize::<C>() {
+        return Err(CardFault::Oversize);
+    }
+    Ok(())
+}
+
+/// Refuses a level outside 1 to 7.
+pub fn check_level(level: u8) -> Result<(), CardFault>
+    ensures { result ≡ unless_refused (level_fault level) tt }
+{
+    if !(1..=7).contains(&level) {
+        return Err(CardFault::BadLevel(level));
+    }
+    Ok(())
 }

@@ -10,6 +10,6 @@ mod withdrawn;
 
 pub use calls::{CardCall, CardResult, perform, run};
 pub use faults::{CardFault, Layer, Refusal};
-pub use interface::{Card, Handler, is_oversize};
+pub use interface::{Card, Handler, check_level, check_size, is_oversize};
 pub use outcomes::{Answer, Driven, Reply};
 pub use withdrawn::Withdrawn;

@@ -1,5 +1,7 @@
-ghost use Rattle.std.specs.Prelude.{◌≡◌};
+ghost use Rattle.std.specs.Prelude.{◌≡◌, Some};
 ghost use Rattle.card.specs.Words.{drive_word};
+
+use std::fmt;
 
 /// What driving a source's wire did.
 #[derive(Clone, Copy, PartialEq, Eq, Debug)]
@@ -28,6 +30,14 @@ impl Driven {
             Driven::Lost => "lost",
             Driven::Quiet => "quiet",
         }
+    }
+}
+
+impl fmt::Display for Driven {
+    ghost output = { λ d. Some (drive_word d) };
+
+    fn fmt<W: fmt::Write>(&self, f: &mut fmt::Formatter<W>) -> fmt::Result {
+        f.write_str(self.word())
     }
 }
 

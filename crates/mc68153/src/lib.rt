@@ -8,7 +8,7 @@ ghost use Rattle.mc68153.specs.Sheet.{fresh, fresh_input, level_in, reply_of_inp
 ghost use Rattle.mc68153.specs.Rules.{mc68153_laws};
 
 use bits::{is_set, with};
-use card::{Answer, Card, CardFault, Driven, Reply, Withdrawn};
+use card::{Answer, Card, CardFault, Driven, Reply, Withdrawn, check_level};
 
 // The bits of a control register.
 const AUTO_CLEAR: u8 = 3;
@@ -117,12 +117,8 @@ impl Mc68153 {
     fn highest_asking(&self, level: u8) -> Option<u8>
         ensures { result ≡ pick (source_at self.now) level 4 }
     {
-        for source in (0..4u8).rev() {
-            if self.inputs[source as usize].asks_at(level) {
-                return Some(source);
-            }
-        }
-        None
+        let source = self.inputs.iter().rposition(|input| input.asks_at(level))?;
+        Some(source as u8)
     }
 }
 
@@ -166,9 +162,7 @@ impl Card for Mc68153 {
     }
 
     fn answer(&mut self, level: u8) -> Result<Option<Answer>, CardFault> {
-        if level < 1 || level > 7 {
-            return Err(CardFault::BadLevel(level));
-        }
+        check_level(level)?;
         let Some(source) = self.highest_asking(level) else {
             return Ok(None);
         };
@@ -179,8 +173,8 @@ impl Card for Mc68153 {
     }
 
     fn reset(&mut self) -> Result<Withdrawn, CardFault> {
-        for i in 0..Self::SOURCES {
-            self.inputs[i].reset();
+        for input in &mut self.inputs {
+            input.reset();
         }
         Ok(Withdrawn::none())
     }

@@ -5,7 +5,7 @@ ghost use Rattle.plain.specs.Sheet.{plain_model};
 ghost use Rattle.plain.specs.Rules.{plain_laws};
 ghost use Rattle.std.proofs.Common.{rules};
 
-use card::{Answer, Card, CardFault, Driven, Handler, Withdrawn};
+use card::{Answer, Card, CardFault, Driven, Handler, Withdrawn, check_level};
 
 /// A handler that lets every level of its chain through.
 #[derive(Clone, Copy)]
@@ -43,9 +43,7 @@ impl Card for PlainHandler {
     }
 
     fn answer(&mut self, level: u8) -> Result<Option<Answer>, CardFault> {
-        if level < 1 || level > 7 {
-            return Err(CardFault::BadLevel(level));
-        }
+        check_level(level)?;
         Ok(None)
     }
 
@@ -64,7 +62,7 @@ impl Handler for PlainHandler {
     ghost notices = { Prim.search rules };
 
     fn admits(&self, level: u8) -> bool {
-        level >= 1 && level <= 7
+        (1..=7).contains(&level)
     }
 
     fn notice(&mut self, _level: u8) {}

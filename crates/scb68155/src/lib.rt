@@ -8,7 +8,7 @@ ghost use Rattle.scb68155.specs.Rules.{scb68155_laws};
 ghost use Rattle.std.proofs.Common.{rules};
 
 use bits::is_set;
-use card::{Answer, Card, CardFault, Driven, Handler, Withdrawn};
+use card::{Answer, Card, CardFault, Driven, Handler, Withdrawn, check_level};
 use latches::Latches;
 use registers::{LINE_BITS, Registers};
 
@@ -77,9 +77,7 @@ impl Card for Scb68155 {
     }
 
     fn answer(&mut self, level: u8) -> Result<Option<Answer>, CardFault> {
-        if level < 1 || level > 7 {
-            return Err(CardFault::BadLevel(level));
-        }
+        check_level(level)?;
         if !is_set(self.asked(), level) {
             return Ok(None);
         }

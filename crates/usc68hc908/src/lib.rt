@@ -9,7 +9,7 @@ ghost use Rattle.usc68hc908.specs.Sheet.{fresh, level_of, channels, base_of, ipr
 ghost use Rattle.usc68hc908.specs.Rules.{usc68hc908_laws};
 
 use bits::{highest_set, is_set, with};
-use card::{Answer, Card, CardFault, Driven, Reply, Withdrawn};
+use card::{Answer, Card, CardFault, Driven, Reply, Withdrawn, check_level};
 use latches::Latches;
 
 // The channels of edge sort, bit c for channel c: the odd ones.
@@ -174,9 +174,7 @@ impl Card for Usc68hc908 {
     }
 
     fn answer(&mut self, level: u8) -> Result<Option<Answer>, CardFault> {
-        if level < 1 || level > 7 {
-            return Err(CardFault::BadLevel(level));
-        }
+        check_level(level)?;
         if level != self.level() {
             return Ok(None);
         }

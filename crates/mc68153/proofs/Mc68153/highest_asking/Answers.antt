@@ -1,18 +1,19 @@
-use Rattle.std.proofs.Common.{◌≡◌, ◌-◌, false, sym, ◌∙◌, subst, inl, inr, arith}
-use Rattle.std.proofs.lemmas.Bool.{cases_lt}
+use Rattle.std.proofs.Common.{◌≡◌, ℕ, ◌<◌, ◌≤◌, Bool, true, false, length, slice_index_or, ◌∙◌, arith, rules}
 use Rattle.card.specs.Source.{asking_at}
-use Rattle.mc68153.specs.Sheet.{source_at}
+use Rattle.mc68153.specs.Sheet.{input, input_source, input_at, source_at}
 use Rattle.mc68153.proofs.Calls.{highest_some, highest_none}
 use Rattle.mc68153.proofs.Mc68153.highest_asking.Goals as goal
 
-pub loop-source-preserved : goal.loop-source-preserved
-loop-source-preserved c = λ k le l. elim (cases_lt k c.loop-source.source) [
-  | inl lt ↦ (let same : c.loop-source.source - 1 ≡ k = omega arith in subst (λ t. asking_at c.args.level (source_at c.args.self.now t) ≡ false) same (sym (c.asks_at.ensures (c.loop-source.source - 1)) ∙ c.if-asks_at.false))
-  | inr past ↦ c.loop-source.invariant k past l
-]
-
-pub returns-then-asks_at : goal.returns-then-asks_at
-returns-then-asks_at c = highest_some c.args.self.now c.args.level (c.loop-source.source - 1) (omega arith) (sym (c.asks_at.ensures (c.loop-source.source - 1)) ∙ c.if-asks_at.true) (λ t lt l. c.loop-source.invariant t (omega arith) l)
+pub returns-in_err-source : goal.returns-in_err-source
+returns-in_err-source c =
+    let four : length c.args.self.now.inputs ≡ 4 = search rules in
+    let none : (t : ℕ) → t < length c.args.self.now.inputs → asking_at c.args.level (input_source t (slice_index_or c.args.self.now.inputs t (input 0 0 false))) ≡ false = search rules in
+    c.from_residual.ensures ∙ highest_none c.args.self.now c.args.level (λ t h. none t (omega (arith, four)))
 
 pub returns : goal.returns
-returns c = highest_none c.args.self.now c.args.level (λ t l. c.loop-source.invariant t (omega arith) l)
+returns c =
+    let four : length c.args.self.now.inputs ≡ 4 = search rules in
+    let within : c.in_ok-source.source < 4 = search rules in
+    let asks : asking_at c.args.level (input_source c.in_ok-source.source (slice_index_or c.args.self.now.inputs c.in_ok-source.source (input 0 0 false))) ≡ true = search rules in
+    let after : (t : ℕ) → c.in_ok-source.source < t → t < 4 → asking_at c.args.level (input_source t (slice_index_or c.args.self.now.inputs t (input 0 0 false))) ≡ false = search rules in
+    highest_some c.args.self.now c.args.level c.in_ok-source.source within asks after
