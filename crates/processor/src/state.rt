@@ -1,10 +1,9 @@
 ghost use Rattle.std.specs.Prelude.{◌≡◌, Some};
-ghost use Rattle.card.specs.declared.faults.Layer.TheVariants.{Rack};
-ghost use Rattle.card.specs.Faults.{refusal};
 ghost use Rattle.card.specs.Words.{tabbed, refusal_fields};
 ghost use Rattle.processor.specs.Faults.{processor_refusal};
 
 use card::{Layer, Refusal};
+use std::error::Error;
 use std::fmt;
 
 /// What a processor is about: nothing, or a level that it has taken and not acknowledged yet.
@@ -62,30 +61,20 @@ pub enum ProcessorFault {
     ServicesOpen(u8),
 }
 
-// A fault that the rack tells.
-fn by_rack(number: u8, place: u8) -> Refusal
-    ensures { result ≡ refusal number Rack place }
-{
-    Refusal {
-        number,
-        layer: Layer::Rack,
-        place,
-    }
-}
+// The fault's number, layer and place.
+impl From<ProcessorFault> for Refusal {
+    ghost from_gives = { λ fault r. r ≡ processor_refusal fault };
 
-impl ProcessorFault {
-    /// The fault's number, layer and place.
-    pub fn refusal(self) -> Refusal
-        ensures { result ≡ processor_refusal self }
-    {
-        match self {
-            ProcessorFault::BadMask(mask) => by_rack(18, mask),
-            ProcessorFault::LevelTaken(level) => by_rack(21, level),
-            ProcessorFault::NothingTaken => by_rack(22, 0),
-            ProcessorFault::NotInnermost(depth) => by_rack(23, depth),
-            ProcessorFault::Full => by_rack(24, 16),
-            ProcessorFault::ServicesOpen(count) => by_rack(25, count),
-        }
+    fn from(fault: ProcessorFault) -> Refusal {
+        let (number, place) = match fault {
+            ProcessorFault::BadMask(mask) => (18, mask),
+            ProcessorFault::LevelTaken(level) => (21, level),
+            ProcessorFault::NothingTaken => (22, 0),
+            ProcessorFault::NotInnermost(depth) => (23, depth),
+            ProcessorFault::Full => (24, 16),
+            ProcessorFault::ServicesOpen(count) => (25, count),
+        };
+        Layer::Rack.refusal(number, place)
     }
 }
 
@@ -94,6 +83,8 @@ impl fmt::Display for ProcessorFault {
     ghost output = { λ e. Some (tabbed (refusal_fields (processor_refusal e))) };
 
     fn fmt<W: fmt::Write>(&self, f: &mut fmt::Formatter<W>) -> fmt::Result {
-        fmt::Display::fmt(&self.refusal(), f)
+        fmt::Display::fmt(&Refusal::from(*self), f)
     }
 }
+
+impl Error for ProcessorFault {}

@@ -5,6 +5,7 @@ ghost use Rattle.card.specs.Words.{tabbed, refusal_fields};
 
 use card::{CardFault, Refusal};
 use processor::ProcessorFault;
+use std::error::Error;
 use std::fmt;
 
 /// Why a rack refuses a call: the fault of a card or of the processor, carried whole.
@@ -30,14 +31,14 @@ impl From<ProcessorFault> for RackFault {
     }
 }
 
-impl RackFault {
-    /// The fault's number, layer and place.
-    pub fn refusal(self) -> Refusal
-        ensures { result ≡ rack_refusal self }
-    {
-        match self {
-            RackFault::Card(fault) => fault.refusal(),
-            RackFault::Processor(fault) => fault.refusal(),
+// The fault's number, layer and place.
+impl From<RackFault> for Refusal {
+    ghost from_gives = { λ fault r. r ≡ rack_refusal fault };
+
+    fn from(fault: RackFault) -> Refusal {
+        match fault {
+            RackFault::Card(fault) => Refusal::from(fault),
+            RackFault::Processor(fault) => Refusal::from(fault),
         }
     }
 }
@@ -47,6 +48,8 @@ impl fmt::Display for RackFault {
     ghost output = { λ e. Some (tabbed (refusal_fields (rack_refusal e))) };
 
     fn fmt<W: fmt::Write>(&self, f: &mut fmt::Formatter<W>) -> fmt::Result {
-        fmt::Display::fmt(&self.refusal(), f)
+        fmt::Display::fmt(&Refusal::from(*self), f)
     }
 }
+
+impl Error for RackFault {}

@@ -1,12 +1,11 @@
 ghost use Rattle.std.specs.Prelude.{◌≡◌, Some};
-ghost use Rattle.card.specs.declared.faults.Layer.TheVariants.{Script};
-ghost use Rattle.card.specs.Faults.{refusal};
 ghost use Rattle.card.specs.Words.{tabbed, refusal_fields};
 ghost use Rattle.script.specs.declared.faults.ScriptFault.TheVariants.{Rack};
 ghost use Rattle.script.specs.Faults.{script_refusal};
 
 use card::{Layer, Refusal};
 use rack::RackFault;
+use std::error::Error;
 use std::fmt;
 
 /// Why a line, or a whole script, is refused.
@@ -36,31 +35,21 @@ impl From<RackFault> for ScriptFault {
     }
 }
 
-// A fault that the script itself tells.
-fn by_script(number: u8, place: u8) -> Refusal
-    ensures { result ≡ refusal number Script place }
-{
-    Refusal {
-        number,
-        layer: Layer::Script,
-        place,
-    }
-}
+// The fault's number, layer and place.
+impl From<ScriptFault> for Refusal {
+    ghost from_gives = { λ fault r. r ≡ script_refusal fault };
 
-impl ScriptFault {
-    /// The fault's number, layer and place.
-    pub fn refusal(self) -> Refusal
-        ensures { result ≡ script_refusal self }
-    {
-        match self {
-            ScriptFault::ShortOutput => by_script(9, 0),
-            ScriptFault::LongLine => by_script(10, 0),
-            ScriptFault::UnknownWord => by_script(11, 1),
-            ScriptFault::WrongCount => by_script(12, 0),
-            ScriptFault::BadField(place) => by_script(13, place),
-            ScriptFault::LongScript => by_script(19, 0),
-            ScriptFault::Rack(fault) => fault.refusal(),
-        }
+    fn from(fault: ScriptFault) -> Refusal {
+        let (number, place) = match fault {
+            ScriptFault::ShortOutput => (9, 0),
+            ScriptFault::LongLine => (10, 0),
+            ScriptFault::UnknownWord => (11, 1),
+            ScriptFault::WrongCount => (12, 0),
+            ScriptFault::BadField(place) => (13, place),
+            ScriptFault::LongScript => (19, 0),
+            ScriptFault::Rack(fault) => return Refusal::from(fault),
+        };
+        Layer::Script.refusal(number, place)
     }
 }
 
@@ -69,6 +58,8 @@ impl fmt::Display for ScriptFault {
     ghost output = { λ e. Some (tabbed (refusal_fields (script_refusal e))) };
 
     fn fmt<W: fmt::Write>(&self, f: &mut fmt::Formatter<W>) -> fmt::Result {
-        fmt::Display::fmt(&self.refusal(), f)
+        fmt::Display::fmt(&Refusal::from(*self), f)
     }
 }
+
+impl Error for ScriptFault {}

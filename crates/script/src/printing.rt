@@ -94,7 +94,7 @@ pub(crate) fn show(number: u64, given: Result<Outcome, ScriptFault>) -> Page
     let mut page = Page::numbered(number);
     match given {
         Ok(outcome) => show_outcome(&mut page, outcome),
-        Err(fault) => show_refusal(&mut page, fault.refusal()),
+        Err(fault) => show_refusal(&mut page, Refusal::from(fault)),
     }
     page.push(b'\n');
     page
