@@ -11,7 +11,7 @@ use bits::{is_set, with};
 use card::{Driven, Withdrawn};
 
 /// The wires of seven inputs, numbered 1 to 7, and the edges that they hold: input n is bit n of each byte.
-#[derive(Clone, Copy)]
+#[derive(Clone, Copy, PartialEq, Eq, Debug)]
 pub struct Latches {
     wires: u8,
     held: u8,

@@ -8,7 +8,7 @@ ghost use Rattle.std.proofs.Common.{rules};
 use card::{Answer, Card, CardFault, Driven, Handler, Withdrawn, check_level};
 
 /// A handler that lets every level of its chain through.
-#[derive(Clone, Copy)]
+#[derive(Clone, Copy, PartialEq, Eq, Debug)]
 pub struct PlainHandler {}
 
 impl PlainHandler {

@@ -95,11 +95,7 @@ impl Usc68hc908 {
         ensures { result ≡ chosen_channel self.now }
     {
         let channel = highest_set(self.pending() & self.ier & self.imr);
-        if channel > highest_set(self.isr) {
-            Some(channel)
-        } else {
-            None
-        }
+        (channel > highest_set(self.isr)).then_some(channel)
     }
 
     // Clears all registers and withdraws all held edges.

@@ -1,8 +1,14 @@
+use Rattle.std.proofs.Common.{◌∙◌, inl, inr}
+use Rattle.std.proofs.lemmas.Bool.{cases_lt, lt-ltb, le-ltb}
 use Rattle.usc68hc908.specs.Parts.{chosen_some, chosen_none}
 use Rattle.usc68hc908.proofs.Usc68hc908.highest_asking.Goals as goal
 
-pub returns-then-channel-highest_set : goal.returns-then-channel-highest_set
-returns-then-channel-highest_set c = chosen_some c.args.self.now c.pending.result c.pending.ensures c.highest_set.result c.highest_set-channel.result c.highest_set-channel.ensures.value c.highest_set.ensures.value c.if-channel-highest_set.true
-
-pub returns-else-channel-highest_set : goal.returns-else-channel-highest_set
-returns-else-channel-highest_set c = chosen_none c.args.self.now c.pending.result c.pending.ensures c.highest_set.result c.highest_set-channel.result c.highest_set-channel.ensures.value c.highest_set.ensures.value c.if-channel-highest_set.false
+pub returns : goal.returns
+returns c =
+    let x = c.args.self.now in
+    let channel = c.highest_set-channel.result in
+    let busy = c.highest_set.result in
+    elim (cases_lt busy channel) [
+      | inl above ↦ (rw (lt-ltb busy channel above) at c.then_some.ensures) ∙ chosen_some x c.pending.result c.pending.ensures busy channel c.highest_set-channel.ensures.value c.highest_set.ensures.value above
+      | inr below ↦ (rw (le-ltb busy channel below) at c.then_some.ensures) ∙ chosen_none x c.pending.result c.pending.ensures busy channel c.highest_set-channel.ensures.value c.highest_set.ensures.value below
+    ]
