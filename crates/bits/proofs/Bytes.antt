@@ -4,7 +4,7 @@ use lib.Bits.{bit_and, bit_or, and_shr, or_shr, and_mod, or_mod}
 use Rattle.std.proofs.lemmas.Nat.{mod_below}
 use Rattle.std.proofs.lemmas.Bool.{cases_eq, ne_eqb}
 use Rattle.card.specs.Bits.{bit}
-use Rattle.card.proofs.Bitwise.{bits_same, bits_none, bits_below, bit_of, own_bits}
+use Rattle.card.proofs.Bitwise.{bits_same, bits_below, bit_of, own_bits}
 use lib.Count.{count_leading_zeros}
 use Rattle.bits.specs.Bytes.{byte, put, both, only, highest}
 use Rattle.bits.proofs.Every.{every, at, same, same_eq}
@@ -135,10 +135,6 @@ and_both x y h = is_byte _ (λ c. bit x c && bit y c) (omega (arith, lib.Bits.an
 pub bit_zero : (c : ℕ) → c < 8 → bit 0 c ≡ false
 bit_zero c h = same_eq _ _ (at (λ c. same (bit 0 c) false) 8 tt c h)
 
--- the mask of one bit
-pub mask_byte : (c : ℕ) → c < 8 → (1 * 2 ^ c) % 256 ≡ byte (λ t. eqb t c)
-mask_byte c h = is_byte _ (λ t. eqb t c) (mask_below c) (λ t k. mask_bit c t h k)
-
 and_swap : (a b : Bool) → (a && b) ≡ (b && a)
 and_swap true true = refl
 and_swap true false = refl
@@ -151,6 +147,3 @@ mask_of m p t c h = same_eq _ _ (at (λ c. same (bit m c) (p c)) 8 t c h)
 
 pub masked : (m : ℕ) (p : ℕ → Bool) → T (every (λ c. same (bit m c) (p c)) 8) → (x : ℕ) → x < 256 → bit_and x m ≡ only p x
 masked m p t x h = is_byte _ (λ c. p c && bit x c) (omega (arith, lib.Bits.and_le_l x m)) (λ c l. bit_of_and x m c ∙ ap (λ b. bit x c && b) (mask_of m p t c l) ∙ and_swap (bit x c) (p c))
-
-pub both_none : (x : ℕ) → both x 0 ≡ 0
-both_none x = bits_none (λ c. bit x c && bit 0 c) 8 (λ c h. ap (λ b. bit x c && b) (bit_zero c h) ∙ and_swap (bit x c) false)

@@ -1,7 +1,7 @@
 -- What each call of the MC68153 gives and leaves.
-use Rattle.std.proofs.Common.{◌≡◌, ℕ, ◌+◌, ◌-◌, ◌<◌, ◌≤◌, Bool, true, false, cond, ◌&&◌, eqb, ltb, List, [], ◌∷◌, length, get_or, set, Some, None, Ok, sym, refl, ap, ◌∙◌, subst, ap₂, inl, inr, arith, length-set, get_or-set_other, get_or-set_same}
+use Rattle.std.proofs.Common.{◌≡◌, ℕ, ◌-◌, ◌<◌, ◌≤◌, Bool, true, false, cond, ◌&&◌, eqb, List, [], ◌∷◌, length, get_or, set, Some, None, Ok, sym, refl, ap, ◌∙◌, subst, ap₂, inl, inr, arith, length-set, get_or-set_other, get_or-set_same}
 use lib.Bits.{bit_and}
-use Rattle.std.proofs.lemmas.Bool.{cases_eq, cases_order, lt-ltb, le-ltb, eq-eqb, ne_eqb, le-leb, cond-true, cond-false}
+use Rattle.std.proofs.lemmas.Bool.{cases_eq, lt-ltb, le-ltb, eq-eqb, ne_eqb, le-leb}
 use Rattle.card.specs.declared.outcomes.Driven.TheVariants.{Follow}
 use Rattle.card.specs.declared.outcomes.Reply.{Reply}
 use Rattle.card.specs.declared.withdrawn.Withdrawn.{Withdrawn}
@@ -16,7 +16,7 @@ use Rattle.bits.proofs.Bytes.{by_bytes}
 use Rattle.bits.proofs.Loops.{pick_top}
 use Rattle.mc68153.specs.declared.Input.{Input}
 use Rattle.mc68153.specs.declared.Mc68153.{Mc68153}
-use Rattle.mc68153.specs.Sheet.{input, fresh_input, level_in, reply_of_input, input_source, table, input_at, source_at, with_input, writes, drives, serves, mc68153_model}
+use Rattle.mc68153.specs.Sheet.{input, level_in, reply_of_input, input_source, table, input_at, source_at, with_input, writes, drives, serves, mc68153_model}
 use Rattle.mc68153.specs.Rules.{ranks_fall}
 
 pub level_is : (c : ℕ) → c < 256 → bit_and c 7 ≡ level_in c
@@ -91,14 +91,3 @@ answer_none x n lo hi e = rw (le-leb 1 n lo, le-leb n 7 hi, sym e) (refl, refl)
 pub answer_some : (x y : Mc68153) (n s : ℕ) (r : Reply) → 1 ≤ n → n ≤ 7 → Some s ≡ pick (source_at x) n 4 → r ≡ reply_of_input (input_at x s) → y ≡ serves x s
     → (Ok (Some (record { source = s; reply = r })) ≡ answer_result mc68153_model x n) × (y ≡ answer_exit mc68153_model x n)
 answer_some x y n s r lo hi e q z = rw (le-leb 1 n lo, le-leb n 7 hi, sym e) (ap (λ p. Ok (Some (record { source = s; reply = p }))) q, z)
-
--- one more input reset
-pub reset_more : (l l₀ : List Input) (k : ℕ) (i : Input) → k < length l → i ≡ fresh_input (get_or l k (input 0 0 false)).asserted
-    → ((t : ℕ) → get_or l t (input 0 0 false) ≡ cond (ltb t k) (fresh_input (get_or l₀ t (input 0 0 false)).asserted) (get_or l₀ t (input 0 0 false)))
-    → (t : ℕ) → get_or (set l k i) t (input 0 0 false) ≡ cond (ltb t (k + 1)) (fresh_input (get_or l₀ t (input 0 0 false)).asserted) (get_or l₀ t (input 0 0 false))
-reset_more l l₀ k i h e inv t = elim (cases_order t k) [
-  | inl same ↦ subst (λ u. get_or (set l k i) u (input 0 0 false) ≡ cond (ltb u (k + 1)) (fresh_input (get_or l₀ u (input 0 0 false)).asserted) (get_or l₀ u (input 0 0 false))) (sym same)
-      (get_or-set_same l k i (input 0 0 false) h ∙ e ∙ ap (λ j. fresh_input j.asserted) (inv k ∙ cond-false (ltb k k) _ _ (le-ltb k k (omega arith))) ∙ sym (cond-true (ltb k (k + 1)) _ _ (lt-ltb k (k + 1) (omega arith))))
-  | inr (inl less) ↦ get_or-set_other l k t i (input 0 0 false) (λ q. omega arith) ∙ inv t ∙ cond-true (ltb t k) _ _ (lt-ltb t k less) ∙ sym (cond-true (ltb t (k + 1)) _ _ (lt-ltb t (k + 1) (omega arith)))
-  | inr (inr more) ↦ get_or-set_other l k t i (input 0 0 false) (λ q. omega arith) ∙ inv t ∙ cond-false (ltb t k) _ _ (le-ltb t k (omega arith)) ∙ sym (cond-false (ltb t (k + 1)) _ _ (le-ltb t (k + 1) (omega arith)))
-]

@@ -1,9 +1,7 @@
 -- What each call of the SCB68155 gives and leaves.
-use Rattle.std.proofs.Common.{◌≡◌, ℕ, ◌+◌, ◌-◌, ◌<◌, ◌≤◌, Bool, true, false, cond, not, ◌&&◌, eqb, ltb, Some, None, Ok, Err, sym, refl, ap, ◌∙◌, subst, ap₂, inl, inr, arith}
+use Rattle.std.proofs.Common.{◌≡◌, ℕ, ◌+◌, ◌-◌, ◌<◌, ◌≤◌, Bool, true, false, cond, not, ◌&&◌, eqb, ltb, Some, None, Ok, sym, refl, ap, ◌∙◌, subst, ap₂, inl, inr, arith}
 use lib.Bits.{bit_and, and_le_l}
 use Rattle.std.proofs.lemmas.Bool.{cases_eq, cases_Bool, both_ways, lt-ltb, eq-eqb, ne_eqb, le-leb, and_right}
-use Rattle.card.specs.declared.faults.CardFault.{CardFault}
-use Rattle.card.specs.declared.faults.CardFault.TheVariants.{NoRegister}
 use Rattle.card.specs.declared.outcomes.Driven.{Driven}
 use Rattle.card.specs.declared.outcomes.Reply.{Reply}
 use Rattle.card.specs.declared.withdrawn.Withdrawn.{Withdrawn}
@@ -11,7 +9,7 @@ use Rattle.card.specs.Source.{asking, asking_at, any_asks, pick}
 use Rattle.card.specs.Bits.{bit}
 use Rattle.card.specs.Withdrawing.{told}
 use Rattle.card.specs.Meaning.{driving, lost}
-use Rattle.card.specs.Model.{unless_refused, changed_unless, reading, write_fault, drive_result, drive_exit, read_result, write_result, write_exit, answer_result, answer_exit, reset_result, levels_asked}
+use Rattle.card.specs.Model.{unless_refused, changed_unless, write_fault, drive_result, drive_exit, write_result, write_exit, answer_result, answer_exit, reset_result, levels_asked}
 use Rattle.card.proofs.Picks.{any_none, any_some}
 use Rattle.bits.proofs.Bytes.{is_byte, bit_of_and, bit_byte, bit_zero, byte_below}
 use Rattle.latches.specs.declared.Latches.{Latches}
@@ -19,20 +17,12 @@ use Rattle.latches.specs.Latching.{input_source, pending_inputs, driven, keeping
 use Rattle.latches.proofs.Rules.{pick_highest, pick_none, told_lost, keeping_none}
 use Rattle.scb68155.specs.declared.registers.Registers.{Registers}
 use Rattle.scb68155.specs.declared.Scb68155.{Scb68155}
-use Rattle.scb68155.specs.Sheet.{chip, clear, is_edge, edges, lines, source_of_chip, requests, reply_of_line, shows, writing, refuses_read, if_register, writes, answers_line, scb68155_model}
+use Rattle.scb68155.specs.Sheet.{chip, clear, is_edge, edges, lines, source_of_chip, requests, reply_of_line, writing, writes, answers_line, scb68155_model}
 use Rattle.scb68155.specs.Rules.{edge_bit}
 
 pub drive_is : (x : Scb68155) (s : ℕ) (w : Bool) (d : Driven) (l : Latches) → s < 7 → d ≡ driving (source_of_chip x s) w → l ≡ driven (lines x.registers) x.latches (s + 1) w
     → (Ok d ≡ drive_result scb68155_model x s w) × (chip x.registers l ≡ drive_exit scb68155_model x s w)
 drive_is x s w d l h e f = rw (lt-ltb s 7 h) (ap Ok e, ap (chip x.registers) f)
-
-pub read_is : (x : Scb68155) (n asked bus : ℕ) → asked ≡ requests x → unless_refused (if_register n (refuses_read x.registers n)) (shows x.registers asked bus n) ≡ read_result scb68155_model x n bus
-read_is x n asked bus e = ap (λ q. unless_refused (if_register n (refuses_read x.registers n)) (shows x.registers q bus n)) e ∙ go (ltb n 8)
-  where
-    go : (b : Bool) → unless_refused (cond b (refuses_read x.registers n) (Some (NoRegister n))) (shows x.registers (requests x) bus n)
-        ≡ reading (cond b None (Some (NoRegister n))) (unless_refused (refuses_read x.registers n) (shows x.registers (requests x) bus n))
-    go true = refl
-    go false = refl
 
 -- an edge is lost where a line was of edge sort and is not any more
 lost_is : (x : Scb68155) (n v : ℕ) → told (loses x.latches (edges x.registers) (edges (writing x.registers n v))) 7 ≡ told (lost (scb68155_model.meaning x) (scb68155_model.meaning (writes x n v))) 7
@@ -47,13 +37,6 @@ pub write_granted : (x : Scb68155) (n v : ℕ) (r : Registers) (l : Latches) (w 
 write_granted x n v r l w f e p q = (
   ap Ok (p ∙ ap (λ r. told (loses x.latches (edges x.registers) (edges r)) 7) e ∙ lost_is x n v) ∙ ap (λ o. unless_refused o (told (lost (scb68155_model.meaning x) (scb68155_model.meaning (writes x n v))) 7)) (sym f),
   ap (chip r) q ∙ ap (λ r. chip r (keeping x.latches (edges x.registers) (edges r))) e ∙ ap (λ o. changed_unless o (writes x n v) x) (sym f),
-)
-
-pub write_refused : (x : Scb68155) (n v : ℕ) (r : Registers) (e : CardFault) → write_fault scb68155_model x n v ≡ Some e → r ≡ x.registers
-    → (Err e ≡ write_result scb68155_model x n v) × (chip r x.latches ≡ write_exit scb68155_model x n v)
-write_refused x n v r e f g = (
-  ap (λ o. unless_refused o (told (lost (scb68155_model.meaning x) (scb68155_model.meaning (writes x n v))) 7)) (sym f),
-  ap (λ r. chip r x.latches) g ∙ ap (λ o. changed_unless o (writes x n v) x) (sym f),
 )
 
 pub reset_is : (x : Scb68155) (r : Registers) (l : Latches) (w : Withdrawn) → r ≡ clear → w ≡ told (loses x.latches (edges x.registers) 0) 7 → l ≡ keeping x.latches (edges x.registers) 0

@@ -53,12 +53,6 @@ pub write_isr : (x : Usc68hc908) (r v isr : ℕ) (w : Withdrawn) → r ≡ 3 →
 write_isr x r v isr w e b n q z = plain_write x (usc x.wired x.latches x.imr x.ier isr x.ivr) r v w (omega arith) (omega arith)
     (ap (λ i. usc x.wired x.latches x.imr x.ier i x.ivr) q ∙ sym (reach_isr x r v e b ∙ ap (λ b. cond b (cleared x) (with_isr x v)) (ne_eqb v 0 n))) refl z
 
-pub write_zero : (x y : Usc68hc908) (r v : ℕ) (w : Withdrawn) → r ≡ 3 → bit x.ier 0 ≡ false → v ≡ 0 → y ≡ cleared x → w ≡ told (lost (usc68hc908_model.meaning x) (usc68hc908_model.meaning (cleared x))) 7
-    → (Ok w ≡ write_result usc68hc908_model x r v) × (y ≡ write_exit usc68hc908_model x r v)
-write_zero x y r v w e b n q z =
-    let all : writes x r v ≡ cleared x = reach_isr x r v e b ∙ ap (λ b. cond b (cleared x) (with_isr x v)) (eq-eqb v 0 n) in
-    write_is x y r v w (omega arith) (omega arith) (q ∙ sym all) (z ∙ ap (λ y. told (lost (usc68hc908_model.meaning x) (usc68hc908_model.meaning y)) 7) (sym all))
-
 pub write_ier : (x : Usc68hc908) (r v : ℕ) (l : Latches) (w : Withdrawn) → r ≡ 2 → l ≡ keeping x.latches odd_channels v → w ≡ told (loses x.latches odd_channels v) 7
     → (Ok w ≡ write_result usc68hc908_model x r v) × (usc x.wired l x.imr v x.isr x.ivr ≡ write_exit usc68hc908_model x r v)
 write_ier x r v l w e q z =

@@ -1,6 +1,6 @@
-use Rattle.std.proofs.Common.{◌≡◌, ℕ, ◌<◌, ◌≤◌, Bool, true, false, length, slice_index_or, ◌∙◌, arith, rules}
+use Rattle.std.proofs.Common.{◌≡◌, ℕ, ◌<◌, true, false, length, slice_index_or, ◌∙◌, arith, rules}
 use Rattle.card.specs.Source.{asking_at}
-use Rattle.mc68153.specs.Sheet.{input, input_source, input_at, source_at}
+use Rattle.mc68153.specs.Sheet.{input, input_source}
 use Rattle.mc68153.proofs.Calls.{highest_some, highest_none}
 use Rattle.mc68153.proofs.Mc68153.highest_asking.Goals as goal
 

@@ -1,6 +1,5 @@
-use Rattle.std.proofs.Common.{◌≡◌, true, sym, ap, ◌∙◌, arith}
-use Rattle.card.specs.Source.{any_asks}
-use Rattle.bits.specs.Bytes.{byte, put}
+use Rattle.std.proofs.Common.{true, sym, ap, ◌∙◌}
+use Rattle.bits.specs.Bytes.{put}
 use Rattle.bits.proofs.Loops.{asked_start, asked_more, asked_same}
 use Rattle.mc68153.specs.Sheet.{source_at}
 use Rattle.mc68153.proofs.Mc68153Card.asked.Goals.{then-asks, else-asks}
@@ -18,8 +17,3 @@ loop-input-preserved c =
       | then-asks w ↦ w.levels-is ∙ w.with-levels.ensures ∙ ap (λ n. put n true levels) w.level.ensures.value ∙ asked_more f i levels c.loop-input.invariant (sym (c.asks.ensures i) ∙ w.if-asks.true)
       | else-asks w ↦ w.levels-is ∙ asked_same f i levels c.loop-input.invariant (sym (c.asks.ensures i) ∙ w.if-asks.false)
     ]
-
-pub returns : goal.returns
-returns c =
-    let all : c.loop-input.input-index ≡ 4 = omega arith in
-    c.loop-input.invariant ∙ ap (λ k. byte (any_asks (source_at c.args.self.now) k)) all

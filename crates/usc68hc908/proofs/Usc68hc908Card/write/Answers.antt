@@ -1,6 +1,6 @@
 use Rattle.std.proofs.Common.{sym, ◌∙◌, arith, rules}
 use Rattle.bits.proofs.Bytes.{and_both}
-use Rattle.usc68hc908.proofs.Calls.{write_imr, write_ier, write_ivr, write_zero, write_isr}
+use Rattle.usc68hc908.proofs.Calls.{write_imr, write_ier, write_ivr, write_isr}
 use Rattle.usc68hc908.proofs.Usc68hc908Card.write.Goals as goal
 
 pub returns-in-1 : goal.returns-in-1
@@ -11,9 +11,6 @@ returns-in-2 c = let done = write_ier c.args.self.now c.args.register c.args.val
 
 pub returns-in-3 : goal.returns-in-3
 returns-in-3 c = let done = write_ivr c.args.self.now c.args.register c.args.value c.none-in-3.result c.in-3.is (sym c.is_set.ensures ∙ c.if-is_set.true) c.none-in-3.ensures in record { result = done.0; after = done.1 }
-
-pub returns-in-3-2 : goal.returns-in-3-2
-returns-in-3-2 c = let done = write_zero c.args.self.now c.clear.new.self c.args.register c.args.value c.clear.result c.in-3.is (sym c.is_set.ensures ∙ c.if-is_set.false) (omega arith) c.clear.ensures.after c.clear.ensures.result in record { result = done.0; after = done.1 }
 
 pub returns-in-3-3 : goal.returns-in-3-3
 returns-in-3-3 c =
