@@ -9,7 +9,7 @@ from pathlib import Path
 
 # (point, what is looked for, expression over the text of a file). A match is a place.
 SEARCHES = [
-    (1, "enums of two variants that hold data", r"^(?:pub(?:\(crate\))? )?enum \w+(?:<[^>]*>)? \{\n(?:(?:    //.*|    #.*)\n)*    \w+(?P<a>[^\n]*),?\n(?:(?:    //.*)\n)*    \w+[^\n]*\n\}"),
+    (1, "enums of two variants that hold data", r"^(?:pub(?:\(crate\))? )?enum \w+(?:<[^>]*>)? \{\n(?=[^}]*[({])(?:(?:    //.*|    #.*)\n)*    \w+[^\n]*\n(?:(?:    //.*)\n)*    \w+[^\n]*\n\}"),
     (1, "fields that are a flag", r"^    (?:pub(?:\(crate\))? )?\w+: bool,$"),
     (1, "arms that only pass an Option or a Result on", r"(?:None => (?:Ok\(None\)|None|Err\(|return (?:Ok\(None\)|None|Err\())|Ok\((?P<v>\w+)\) => Ok\((?P=v)\)|Err\(\w+\) => (?:Err\(|None)|Some\(_?\w*\) => Some\()"),
     (1, "an if that makes an Option", r"\{\s*Some\([^{}]*\)\s*\} else \{\s*None\s*\}"),

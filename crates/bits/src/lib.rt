@@ -22,6 +22,7 @@ pub fn with(x: u8, n: u8, on: bool) -> u8
     if on { x | (1 << n) } else { x & !(1 << n) }
 }
 
+// Not an Option: 0 is below every level, so that callers compare it as it is.
 /// The highest bit that is set of bits 1 to 7, or 0.
 pub fn highest_set(x: u8) -> u8
     ensures value { result ≡ highest (bit x) 7 }

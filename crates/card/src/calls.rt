@@ -7,7 +7,8 @@ use crate::interface::Card;
 use crate::outcomes::{Answer, Driven};
 use crate::withdrawn::Withdrawn;
 
-/// A call of a card. Calls are data: the law over every run is about lists of them.
+// Calls are data, and no closures: the law over every run is about lists of them.
+/// A call of a card.
 #[derive(Clone, Copy, PartialEq, Eq, Debug)]
 pub enum CardCall {
     Drive { source: u8, asserted: bool },

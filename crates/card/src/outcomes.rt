@@ -41,6 +41,7 @@ impl fmt::Display for Driven {
     }
 }
 
+// Not an Option: a vector from outside is a reply as well.
 /// What a source replies when it is answered.
 #[derive(Clone, Copy, PartialEq, Eq, Debug)]
 pub enum Reply {

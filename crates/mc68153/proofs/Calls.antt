@@ -84,10 +84,3 @@ highest_none x n none = sym (none_picked (source_at x) n 4 none)
 
 pub some_within : (x : Mc68153) (n s : ℕ) → Some s ≡ pick (source_at x) n 4 → s < 4
 some_within x n s e = (chosen_by (source_at x) n 4 (Some s) (sym e)).within
-
-pub answer_none : (x : Mc68153) (n : ℕ) → 1 ≤ n → n ≤ 7 → None ≡ pick (source_at x) n 4 → (Ok None ≡ answer_result mc68153_model x n) × (x ≡ answer_exit mc68153_model x n)
-answer_none x n lo hi e = rw (le-leb 1 n lo, le-leb n 7 hi, sym e) (refl, refl)
-
-pub answer_some : (x y : Mc68153) (n s : ℕ) (r : Reply) → 1 ≤ n → n ≤ 7 → Some s ≡ pick (source_at x) n 4 → r ≡ reply_of_input (input_at x s) → y ≡ serves x s
-    → (Ok (Some (record { source = s; reply = r })) ≡ answer_result mc68153_model x n) × (y ≡ answer_exit mc68153_model x n)
-answer_some x y n s r lo hi e q z = rw (le-leb 1 n lo, le-leb n 7 hi, sym e) (ap (λ p. Ok (Some (record { source = s; reply = p }))) q, z)

@@ -127,6 +127,7 @@ impl Card for Mc68153 {
 
     ghost laws = { mc68153_laws };
 
+    // A rule of the project: a chip has its counts as constants, and joined cards as capped sums; so the trait asks for functions.
     fn source_count() -> usize {
         Self::SOURCES
     }

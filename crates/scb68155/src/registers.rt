@@ -70,7 +70,7 @@ impl Registers {
         Ok(line)
     }
 
-    // The control register of an LRQ line, or 0 where there is none.
+    // The control register of an LRQ line, or 0 where there is none. Not an Option: its bits are then clear, as the sheet has it.
     fn control(&self, line: u8) -> u8
         ensures { result ≡ control self.now line }
     {

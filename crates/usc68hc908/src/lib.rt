@@ -116,6 +116,7 @@ impl Card for Usc68hc908 {
 
     ghost laws = { usc68hc908_laws };
 
+    // A rule of the project: a chip has its counts as constants, and joined cards as capped sums; so the trait asks for functions.
     fn source_count() -> usize {
         Self::SOURCES
     }
