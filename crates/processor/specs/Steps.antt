@@ -1,5 +1,5 @@
 -- The processor: what each call gives and leaves. It knows no card: a take is told the presented level.
-use Rattle.std.specs.Prelude.{ℕ, cond, List, [], ◌∷◌, length, Some, None, Ok, Err, Option, Result, ◌==◌, nat_lt}
+use Rattle.std.specs.Prelude.{ℕ, cond, List, [], ◌∷◌, length, drop, Some, None, Ok, Err, Option, Result, ◌==◌, nat_lt}
 use Rattle.processor.specs.declared.state.State.{State}
 use Rattle.processor.specs.declared.state.State.TheVariants.{Idle, Taken}
 use Rattle.processor.specs.declared.state.ProcessorCall.{ProcessorCall}
@@ -71,10 +71,6 @@ abbrev pub found_in : State → ℕ
 found_in Idle = 0
 found_in (Taken level found) = found
 
-abbrev pub rest_of : List ℕ → List ℕ
-rest_of [] = []
-rest_of (m ∷ ms) = ms
-
 -- What is left follows from what was given: a refusal changes nothing. A level taken becomes the mask; an acknowledge opens a service; a
 -- return closes the innermost, and puts its mask back.
 abbrev pub after : Proc → Result Done ProcessorFault → Proc
@@ -82,7 +78,7 @@ after p (Err e) = p
 after p (Ok (Took None)) = p
 after p (Ok (Took (Some level))) = proc p.number level (Taken level p.mask) p.services
 after p (Ok (Opened level)) = proc p.number p.mask Idle (found_in p.state ∷ p.services)
-after p (Ok (Returned m)) = proc p.number m Idle (rest_of p.services)
+after p (Ok (Returned m)) = proc p.number m Idle (drop 1 p.services)
 after p (Ok (Masked m)) = proc p.number m p.state p.services
 after p (Ok WasReset) = proc p.number 7 p.state p.services
 

@@ -8,6 +8,7 @@ use card::{Layer, Refusal};
 use std::fmt;
 
 /// What a processor is about: nothing, or a level that it has taken and not acknowledged yet.
+// Its own enum, since `step` matches it together with the call, and there `Idle` says more than `None`.
 #[derive(Clone, Copy, PartialEq, Eq, Debug)]
 pub enum State {
     Idle,

@@ -3,11 +3,12 @@ ghost use Rattle.std.specs.Result.{result_map_both};
 ghost use Rattle.processor.specs.Tokens.{token, with_token};
 
 /// A right that was handed out. It bears the number of the processor that handed it out and the depth of the service that it is for, and
-/// must be handed in: only a spent token may be let go. The flag is there for that fact alone, so that the prover refuses a lost token.
+/// must be handed in: only a spent token may be let go.
 pub struct Token<R> {
     pub(crate) number: u32,
     pub(crate) depth: u8,
     pub(crate) right: R,
+    // A rule of the project: `Drop` asks for this flag, so that the prover refuses a token that is lost.
     pub(crate) spent: bool,
 }
 
@@ -67,9 +68,8 @@ impl<R: Drop> Token<R> {
     }
 
     // Lets the token go, spent.
-    fn spend(self) {
-        let mut token = self;
-        token.spent = true;
+    fn spend(mut self) {
+        self.spent = true;
     }
 }
 

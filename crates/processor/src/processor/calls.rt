@@ -89,7 +89,8 @@ impl Processor {
         Ok(Done::Took(Some(presented)))
     }
 
-    // Closes the service of this number, if it is the innermost. The state stays, and a return leaves it idle: so it is asked for.
+    // Closes the service of this number, if it is the innermost. It asks for the state that `step` has matched: a return leaves a processor
+    // idle, and nothing is written to the state here.
     fn close(&mut self, depth: u8) -> Result<Done, ProcessorFault>
         requires { self.old.state ≡ Idle }
         ensures result { result ≡ return_gives self.old.services depth }
