@@ -1,5 +1,5 @@
 -- What holds of a processor over every run, told from what the calls did, and not from what the processor stores.
-use Rattle.std.specs.Prelude.{◌≡◌, ℕ, ◌+◌, Bool, true, false, List, [], ◌∷◌, map, length, Some, None, Ok, Err, Option, Result}
+use Rattle.std.specs.Prelude.{◌≡◌, ℕ, ◌+◌, Bool, true, false, List, [], ◌∷◌, map, length, drop, Some, None, Ok, Err, Option, Result}
 use Rattle.card.specs.Runs.{Turn, turns, one, count_of, Along}
 use Rattle.processor.specs.declared.state.State.{State}
 use Rattle.processor.specs.declared.state.State.TheVariants.{Idle, Taken}
@@ -7,7 +7,7 @@ use Rattle.processor.specs.declared.state.ProcessorCall.{ProcessorCall}
 use Rattle.processor.specs.declared.state.Done.{Done}
 use Rattle.processor.specs.declared.state.Done.TheVariants.{Took, Opened, Returned, Masked, WasReset}
 use Rattle.processor.specs.declared.state.ProcessorFault.{ProcessorFault}
-use Rattle.processor.specs.Steps.{Proc, rest_of, gives, leaves}
+use Rattle.processor.specs.Steps.{Proc, gives, leaves}
 
 -- what a call did: a take gave a level, an acknowledge was granted, a return was granted and told a mask, or anything else
 pub data Event : Type 0 where
@@ -51,7 +51,7 @@ level_after other level = level
 abbrev pub masks_after : ℕ → Event → List ℕ → List ℕ
 masks_after found (took n) masks = found ∷ masks
 masks_after found opened masks = masks
-masks_after found (returned m) masks = rest_of masks
+masks_after found (returned m) masks = drop 1 masks
 masks_after found other masks = masks
 
 abbrev pub noted : Entry → List ℕ → List ℕ

@@ -1,4 +1,3 @@
-pub mod Rooms
 pub mod Faults
 pub mod Steps
 pub mod Tokens

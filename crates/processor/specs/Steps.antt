@@ -1,5 +1,5 @@
 -- The processor: what each call gives and leaves. It knows no card: a take is told the presented level.
-use Rattle.std.specs.Prelude.{ℕ, zero, suc, cond, List, [], ◌∷◌, length, Some, None, Ok, Err, Option, Result, ◌==◌, nat_lt, slice_index}
+use Rattle.std.specs.Prelude.{ℕ, cond, List, [], ◌∷◌, length, drop, Some, None, Ok, Err, Option, Result, ◌==◌, nat_lt}
 use Rattle.processor.specs.declared.state.State.{State}
 use Rattle.processor.specs.declared.state.State.TheVariants.{Idle, Taken}
 use Rattle.processor.specs.declared.state.ProcessorCall.{ProcessorCall}
@@ -8,7 +8,6 @@ use Rattle.processor.specs.declared.state.Done.{Done}
 use Rattle.processor.specs.declared.state.Done.TheVariants.{Took, Opened, Returned, Masked, WasReset}
 use Rattle.processor.specs.declared.state.ProcessorFault.{ProcessorFault}
 use Rattle.processor.specs.declared.state.ProcessorFault.TheVariants.{BadMask, LevelTaken, NothingTaken, NotInnermost, Full, ServicesOpen}
-use Rattle.processor.specs.declared.processor.Processor.{Processor}
 
 -- A processor: its own number, its mask, whether it is idle or has taken a level and with which mask found, and the mask that the take
 -- of each open service found, the innermost first.
@@ -18,17 +17,17 @@ pub record Proc : Type 0 where
   pub state : State
   pub services : List ℕ
 
--- the first n masks, the last first
-unfoldable pub stack : List ℕ → ℕ → List ℕ
-stack masks zero = []
-stack masks (suc n) = slice_index masks n ∷ stack masks n
+abbrev pub proc : ℕ → ℕ → State → List ℕ → Proc
+proc n m s ms = record { number = n; mask = m; state = s; services = ms }
 
-abbrev pub proc_of : Processor → Proc
-proc_of p = record { number = p.number; mask = p.mask; state = p.state; services = stack p.masks p.«open» }
+-- the places that a taken level wants among the services: one, for its own
+abbrev pub wanted : State → ℕ
+wanted Idle = 0
+wanted (Taken level found) = 1
 
 -- as made: mask 7, nothing taken, nothing open
 abbrev pub fresh : ℕ → Proc
-fresh n = record { number = n; mask = 7; state = Idle; services = [] }
+fresh n = proc n 7 Idle []
 
 -- a level above the mask is taken
 abbrev pub above : ℕ → ℕ → Option ℕ
@@ -72,13 +71,6 @@ abbrev pub found_in : State → ℕ
 found_in Idle = 0
 found_in (Taken level found) = found
 
-abbrev pub rest_of : List ℕ → List ℕ
-rest_of [] = []
-rest_of (m ∷ ms) = ms
-
-abbrev pub proc : ℕ → ℕ → State → List ℕ → Proc
-proc n m s ms = record { number = n; mask = m; state = s; services = ms }
-
 -- What is left follows from what was given: a refusal changes nothing. A level taken becomes the mask; an acknowledge opens a service; a
 -- return closes the innermost, and puts its mask back.
 abbrev pub after : Proc → Result Done ProcessorFault → Proc
@@ -86,7 +78,7 @@ after p (Err e) = p
 after p (Ok (Took None)) = p
 after p (Ok (Took (Some level))) = proc p.number level (Taken level p.mask) p.services
 after p (Ok (Opened level)) = proc p.number p.mask Idle (found_in p.state ∷ p.services)
-after p (Ok (Returned m)) = proc p.number m Idle (rest_of p.services)
+after p (Ok (Returned m)) = proc p.number m Idle (drop 1 p.services)
 after p (Ok (Masked m)) = proc p.number m p.state p.services
 after p (Ok WasReset) = proc p.number 7 p.state p.services
 

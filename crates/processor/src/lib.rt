@@ -10,4 +10,4 @@ mod tokens;
 pub use processor::Processor;
 pub use runs::run;
 pub use state::{Done, ProcessorCall, ProcessorFault, State};
-pub use tokens::{Refused, ServiceToken, TakenToken};
+pub use tokens::{OpenService, Refused, ServiceToken, TakenLevel, TakenToken, Token};

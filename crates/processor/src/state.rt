@@ -7,7 +7,8 @@ use std::error::Error;
 use std::fmt;
 
 /// What a processor is about: nothing, or a level that it has taken and not acknowledged yet.
-#[derive(Clone, Copy)]
+// Its own enum, since `step` matches it together with the call, and there `Idle` says more than `None`.
+#[derive(Clone, Copy, PartialEq, Eq, Debug)]
 pub enum State {
     Idle,
     /// The level, and the mask that its take found.
@@ -15,7 +16,7 @@ pub enum State {
 }
 
 /// A call of a processor.
-#[derive(Clone, Copy)]
+#[derive(Clone, Copy, PartialEq, Eq, Debug)]
 pub enum ProcessorCall {
     /// Take the presented level if it is above the mask.
     Take { presented: u8 },
@@ -30,7 +31,7 @@ pub enum ProcessorCall {
 }
 
 /// What a granted call did.
-#[derive(Clone, Copy)]
+#[derive(Clone, Copy, PartialEq, Eq, Debug)]
 pub enum Done {
     /// It took this level, or none.
     Took(Option<u8>),

@@ -10,7 +10,7 @@ use Rattle.processor.specs.declared.state.ProcessorCall.TheVariants.{Take as Tak
 use Rattle.processor.specs.declared.state.Done.{Done}
 use Rattle.processor.specs.declared.state.Done.TheVariants.{Took as DoneTook, Opened, Returned as DoneReturned, Masked as DoneMasked, WasReset}
 use Rattle.processor.specs.declared.state.ProcessorFault.{ProcessorFault}
-use Rattle.processor.specs.Steps.{Proc, proc_of, fresh, gives, after}
+use Rattle.processor.specs.Steps.{Proc, fresh, gives, after}
 use Rattle.rack.specs.declared.calls.Side.{Side}
 use Rattle.rack.specs.declared.calls.Side.TheVariants.{Local, Chain}
 use Rattle.rack.specs.declared.calls.Call.{Call}
@@ -40,7 +40,7 @@ pub record State (H C : Type 0) : Type 0 where
   pub processor : Proc
 
 abbrev pub view : {H C : Type 0} → Rack H C → State H C
-view r = record { handler = r.handler; chain = r.chain; processor = proc_of r.processor }
+view r = record { handler = r.handler; chain = r.chain; processor = r.processor }
 
 -- a rack as it is made
 abbrev pub start : {H C : Type 0} → ℕ → H → C → State H C

@@ -1,63 +1,58 @@
-// Calls by depth, each with a result of its own kind, and beside them the same calls by token.
+// Calls by depth, each with a result of its own kind, and beside them the same calls by token. The calls by depth are unwrapped from
+// `step`, and `step` does not wrap them, since it decides on the state and the call together: so that match stands in one place.
 ghost use Rattle.std.specs.Prelude.{◌≡◌, suc, length};
+ghost use Rattle.std.specs.Result.{result_map_both};
 ghost use Rattle.processor.specs.declared.state.ProcessorCall.TheVariants.{Take, Acknowledge, Return};
 ghost use Rattle.processor.specs.declared.state.Done.TheVariants.{Took, Opened, Returned};
-ghost use Rattle.processor.specs.Steps.{proc_of, gives, leaves};
-ghost use Rattle.processor.specs.Tokens.{done, token_take, token_acknowledge, token_acknowledge_leaves, token_return, token_return_leaves, foreign_fault};
+ghost use Rattle.processor.specs.Steps.{gives, leaves};
+ghost use Rattle.processor.specs.Tokens.{token_take, token_acknowledge, token_acknowledge_leaves, token_return, token_return_leaves, foreign_fault};
 
 use crate::processor::Processor;
 use crate::state::{Done, ProcessorCall, ProcessorFault, State};
-use crate::tokens::{Refused, ServiceToken, TakenToken};
+use crate::tokens::{OpenService, Refused, ServiceToken, TakenLevel, TakenToken, Token};
 
 impl Processor {
     /// Takes the presented level, if it is above the mask.
     pub fn take_level(&mut self, presented: u8) -> Result<Option<u8>, ProcessorFault>
-        ensures result { done Took result ≡ gives (proc_of self.old) (Take presented) }
-        ensures after { proc_of self.new ≡ leaves (proc_of self.old) (Take presented) }
+        ensures result { result_map_both Took (λ e. e) result ≡ gives self.old (Take presented) }
+        ensures after { self.new ≡ leaves self.old (Take presented) }
     {
-        match self.step(ProcessorCall::Take { presented })? {
-            Done::Took(level) => Ok(level),
-            _ => unreachable(),
-        }
+        let Done::Took(taken) = self.step(ProcessorCall::Take { presented })? else {
+            unreachable()
+        };
+        Ok(taken)
     }
 
     /// Opens the service of the level taken, and gives that level.
     pub fn open_service(&mut self) -> Result<u8, ProcessorFault>
-        ensures result { done Opened result ≡ gives (proc_of self.old) Acknowledge }
-        ensures after { proc_of self.new ≡ leaves (proc_of self.old) Acknowledge }
+        ensures result { result_map_both Opened (λ e. e) result ≡ gives self.old Acknowledge }
+        ensures after { self.new ≡ leaves self.old Acknowledge }
     {
-        match self.step(ProcessorCall::Acknowledge)? {
-            Done::Opened(level) => Ok(level),
-            _ => unreachable(),
-        }
+        let Done::Opened(level) = self.step(ProcessorCall::Acknowledge)? else {
+            unreachable()
+        };
+        Ok(level)
     }
 
     /// Closes the service of this number, the innermost, and gives the mask that is put back.
     pub fn close_service(&mut self, depth: u8) -> Result<u8, ProcessorFault>
-        ensures result { done Returned result ≡ gives (proc_of self.old) (Return depth) }
-        ensures after { proc_of self.new ≡ leaves (proc_of self.old) (Return depth) }
+        ensures result { result_map_both Returned (λ e. e) result ≡ gives self.old (Return depth) }
+        ensures after { self.new ≡ leaves self.old (Return depth) }
     {
-        match self.step(ProcessorCall::Return { depth })? {
-            Done::Returned(mask) => Ok(mask),
-            _ => unreachable(),
-        }
+        let Done::Returned(mask) = self.step(ProcessorCall::Return { depth })? else {
+            unreachable()
+        };
+        Ok(mask)
     }
 
     /// Takes the presented level, if it is above the mask, and hands out the token for it.
     pub fn take(&mut self, presented: u8) -> Result<Option<TakenToken>, ProcessorFault>
-        ensures result { result ≡ token_take (proc_of self.old) (gives (proc_of self.old) (Take presented)) }
-        ensures after { proc_of self.new ≡ leaves (proc_of self.old) (Take presented) }
+        ensures result { result ≡ token_take self.old (gives self.old (Take presented)) }
+        ensures after { self.new ≡ leaves self.old (Take presented) }
     {
-        let next = self.next_depth();
-        match self.take_level(presented)? {
-            Some(level) => Ok(Some(TakenToken {
-                number: self.number,
-                depth: next,
-                level,
-                spent: false,
-            })),
-            None => Ok(None),
-        }
+        let depth = self.next_depth();
+        let taken = self.take_level(presented)?;
+        Ok(taken.map(|level| Token::new(self.number, depth, TakenLevel { level })))
     }
 
     /// Spends the token of the level taken, opens its service, and gives that level and the token of the service.
@@ -65,8 +60,8 @@ impl Processor {
         &mut self,
         token: TakenToken,
     ) -> Result<(u8, ServiceToken), Refused<ProcessorFault, TakenToken>>
-        ensures result { result ≡ token_acknowledge (proc_of self.old) token }
-        ensures after { proc_of self.new ≡ token_acknowledge_leaves (proc_of self.old) token }
+        ensures result { result ≡ token_acknowledge self.old token }
+        ensures after { self.new ≡ token_acknowledge_leaves self.old token }
     {
         let depth = self.next_depth();
         if token.number != self.number || token.depth != depth {
@@ -75,18 +70,8 @@ impl Processor {
                 token,
             });
         }
-        match self.open_service() {
-            Ok(level) => {
-                token.spend();
-                let service = ServiceToken {
-                    number: self.number,
-                    depth,
-                    spent: false,
-                };
-                Ok((level, service))
-            }
-            Err(fault) => Err(Refused { fault, token }),
-        }
+        let level = token.hand_in(self.open_service())?;
+        Ok((level, Token::new(self.number, depth, OpenService)))
     }
 
     /// Spends the token of the innermost service, closes it, and gives the mask that is put back.
@@ -94,27 +79,22 @@ impl Processor {
         &mut self,
         token: ServiceToken,
     ) -> Result<u8, Refused<ProcessorFault, ServiceToken>>
-        ensures result { result ≡ token_return (proc_of self.old) token }
-        ensures after { proc_of self.new ≡ token_return_leaves (proc_of self.old) token }
+        ensures result { result ≡ token_return self.old token }
+        ensures after { self.new ≡ token_return_leaves self.old token }
     {
+        let depth = token.depth;
         if token.number != self.number {
-            let fault = self.foreign_fault(token.depth);
+            let fault = self.foreign_fault(depth);
             return Err(Refused { fault, token });
         }
-        match self.close_service(token.depth) {
-            Ok(mask) => {
-                token.spend();
-                Ok(mask)
-            }
-            Err(fault) => Err(Refused { fault, token }),
-        }
+        token.hand_in(self.close_service(depth))
     }
 
     // The depth of the service to come.
     fn next_depth(&self) -> u8
-        ensures { result ≡ suc (length (proc_of self.now).services) }
+        ensures { result ≡ suc (length self.now.services) }
     {
-        self.open as u8 + 1
+        self.masks.len() as u8 + 1
     }
 
     // Why a foreign service token is refused.
