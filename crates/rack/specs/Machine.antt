@@ -3,6 +3,7 @@ use Rattle.std.specs.Prelude.{ℕ, Bool, true, false, cond, ◌&&◌, ◌||◌, 
 use Rattle.card.specs.declared.faults.CardFault.{CardFault}
 use Rattle.card.specs.declared.faults.CardFault.TheVariants.{Oversize}
 use Rattle.card.specs.declared.outcomes.Answer.{Answer}
+use Rattle.card.specs.declared.interface.Card.{Ghosts as OfCard}
 use Rattle.card.specs.Source.{Source, any_asks, pick}
 use Rattle.card.specs.Model.{Model, source_of, oversize, drive_result, drive_exit, read_result, write_result, write_exit, withdrawn, levels_asked}
 use Rattle.bits.specs.Bytes.{highest}
@@ -10,7 +11,7 @@ use Rattle.processor.specs.declared.state.ProcessorCall.TheVariants.{Take as Tak
 use Rattle.processor.specs.declared.state.Done.{Done}
 use Rattle.processor.specs.declared.state.Done.TheVariants.{Took as DoneTook, Opened, Returned as DoneReturned, Masked as DoneMasked, WasReset}
 use Rattle.processor.specs.declared.state.ProcessorFault.{ProcessorFault}
-use Rattle.processor.specs.Steps.{Proc, proc_of, fresh, gives, after}
+use Rattle.processor.specs.Steps.{Proc, fresh, gives, after}
 use Rattle.rack.specs.declared.calls.Side.{Side}
 use Rattle.rack.specs.declared.calls.Side.TheVariants.{Local, Chain}
 use Rattle.rack.specs.declared.calls.Call.{Call}
@@ -21,7 +22,6 @@ use Rattle.rack.specs.declared.calls.Outcome.{Outcome}
 use Rattle.rack.specs.declared.calls.Outcome.TheVariants.{Drove, Showed, Withdrew, Masked, Took, Answered, Returned, Cleared}
 use Rattle.rack.specs.declared.faults.RackFault.{RackFault}
 use Rattle.rack.specs.declared.faults.RackFault.TheVariants.{Card, Processor}
-use Rattle.rack.specs.declared.rack.Rack.{Rack}
 use Rattle.rack.specs.Words.{spurious_vector}
 
 -- The kinds of a rack's handler and chain, and what a notice does to the handler.
@@ -30,17 +30,15 @@ pub record Parts (H C : Type 0) : Type 0 where
   pub noticed : H → ℕ → H
   pub chain : Model C
 
-abbrev pub parts : {H C : Type 0} → Model H → (H → ℕ → H) → Model C → Parts H C
-parts h n c = record { handler = h; noticed = n; chain = c }
+-- the same, from what the bounds `H: Handler` and `C: Card` say of the two
+abbrev pub parts : {H C : Type 0} → record { model : Model H; noticed : H → ℕ → H } → OfCard C → Parts H C
+parts h c = record { handler = h.model; noticed = h.noticed; chain = c.model }
 
 -- A rack: a handler above a chain, and one processor.
 pub record State (H C : Type 0) : Type 0 where
   pub handler : H
   pub chain : C
   pub processor : Proc
-
-abbrev pub view : {H C : Type 0} → Rack H C → State H C
-view r = record { handler = r.handler; chain = r.chain; processor = proc_of r.processor }
 
 -- a rack as it is made
 abbrev pub start : {H C : Type 0} → ℕ → H → C → State H C

@@ -2,7 +2,7 @@
 ghost use Rattle.std.specs.Prelude.{◌≡◌};
 ghost use Rattle.rack.specs.declared.calls.Call.TheVariants.{Take};
 ghost use Rattle.rack.specs.declared.faults.RackFault.TheVariants.{Processor};
-ghost use Rattle.rack.specs.Machine.{parts, view, rack_leaves};
+ghost use Rattle.rack.specs.Machine.{parts, rack_leaves};
 ghost use Rattle.rack.specs.Tokens.{token_take_gives, token_acknowledge_gives, token_acknowledge_exit, token_return_gives, token_return_exit};
 
 use crate::calls::Reached;
@@ -14,8 +14,8 @@ use processor::{ProcessorFault, Refused, ServiceToken, TakenToken};
 impl<H: Handler, C: Card> Rack<H, C> {
     /// Takes the presented level, if it is above the mask, and hands out the token for it.
     pub fn take(&mut self) -> Result<Option<TakenToken>, RackFault>
-        ensures result { result ≡ token_take_gives (parts H.Card.model H.Handler.noticed C.Card.model) (view self.old) }
-        ensures after { view self.new ≡ rack_leaves (parts H.Card.model H.Handler.noticed C.Card.model) (view self.old) Take }
+        ensures result { result ≡ token_take_gives (parts H.Handler C.Card) self.old }
+        ensures after { self.new ≡ rack_leaves (parts H.Handler C.Card) self.old Take }
     {
         Self::fits()?;
         let presented = self.presented_level();
@@ -27,8 +27,8 @@ impl<H: Handler, C: Card> Rack<H, C> {
         &mut self,
         token: TakenToken,
     ) -> Result<(Reached, ServiceToken), Refused<RackFault, TakenToken>>
-        ensures result { result ≡ token_acknowledge_gives (parts H.Card.model H.Handler.noticed C.Card.model) (view self.old) token }
-        ensures after { view self.new ≡ token_acknowledge_exit (parts H.Card.model H.Handler.noticed C.Card.model) (view self.old) token }
+        ensures result { result ≡ token_acknowledge_gives (parts H.Handler C.Card) self.old token }
+        ensures after { self.new ≡ token_acknowledge_exit (parts H.Handler C.Card) self.old token }
     {
         if let Err(fault) = Self::fits() {
             return Err(Refused {
@@ -47,8 +47,8 @@ impl<H: Handler, C: Card> Rack<H, C> {
         &mut self,
         token: ServiceToken,
     ) -> Result<u8, Refused<RackFault, ServiceToken>>
-        ensures result { result ≡ token_return_gives (parts H.Card.model H.Handler.noticed C.Card.model) (view self.old) token }
-        ensures after { view self.new ≡ token_return_exit (parts H.Card.model H.Handler.noticed C.Card.model) (view self.old) token }
+        ensures result { result ≡ token_return_gives (parts H.Handler C.Card) self.old token }
+        ensures after { self.new ≡ token_return_exit (parts H.Handler C.Card) self.old token }
     {
         if let Err(fault) = Self::fits() {
             return Err(Refused {
