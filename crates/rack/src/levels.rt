@@ -12,11 +12,9 @@ impl<H: Handler, C: Card> Rack<H, C> {
     fn admitted_levels(&self) -> u8
         ensures { result ≡ byte (admitted (parts H.Handler C.Card) self.now) }
     {
-        let mut levels = 0;
-        for level in 1..8u8 {
-            levels = with(levels, level, self.handler.admits(level));
-        }
-        levels
+        (1..8u8).fold(0, |levels, level| {
+            with(levels, level, self.handler.admits(level))
+        })
     }
 
     // The levels at which a local source asks, or a chain source asks and the handler admits it.
