@@ -2,17 +2,18 @@ use Rattle.std.proofs.Common.{◌+◌, false, ◌++◌, get_or, drop, vec_items,
 use Rattle.std.proofs.lemmas.List.{at_drop_more, at_drop_all, append-nil}
 use Rattle.rack.specs.declared.calls.Call.TheVariants.{Drive}
 use Rattle.rack.specs.declared.calls.Side.TheVariants.{Local}
-use Rattle.rack.specs.Machine.{parts, start}
+use Rattle.rack.specs.Machine.{start}
+use Rattle.rack.proofs.Bounds.{parts_of}
 use Rattle.runs.specs.Turns.{end_of_run, results_of}
 use Rattle.runs.proofs.Keeps.{run_keeps, results_more}
 use Rattle.runs.proofs.run.Goals as goal
 
 pub loop-call-init : goal.loop-call-init
-loop-call-init g c = (refl, ap (λ l. l ++ results_of (parts (record { model = g.H.Card.model; noticed = g.H.Handler.noticed }) g.C.Card) c.new-rack.result c.args.calls.now) c.new-results.ensures.items)
+loop-call-init g c = (refl, ap (λ l. l ++ results_of (parts_of g.H.Card g.H.Handler g.C.Card) c.new-rack.result c.args.calls.now) c.new-results.ensures.items)
 
 pub loop-call-preserved : goal.loop-call-preserved
 loop-call-preserved g c =
-    let p = parts (record { model = g.H.Card.model; noticed = g.H.Handler.noticed }) g.C.Card in
+    let p = parts_of g.H.Card g.H.Handler g.C.Card in
     let calls = c.args.calls.now in
     let i = c.loop-call.call-index in
     let x = c.loop-call.rack in
@@ -28,7 +29,7 @@ loop-call-preserved g c =
 
 pub returns : goal.returns
 returns g c =
-    let p = parts (record { model = g.H.Card.model; noticed = g.H.Handler.noticed }) g.C.Card in
+    let p = parts_of g.H.Card g.H.Handler g.C.Card in
     let calls = c.args.calls.now in
     let x = start c.args.number c.args.handler c.args.chain in
     let y = c.loop-call.rack in

@@ -1,12 +1,12 @@
 use Rattle.std.proofs.Common.{◌≡◌, ◌++◌, drop, vec_items}
-use Rattle.rack.specs.Machine.{parts}
+use Rattle.rack.proofs.Bounds.{parts_of}
 use Rattle.runs.specs.Turns.{end_of_run, results_of}
 use Rattle.runs.proofs.run.Given as goal
 
 -- the calls yet to make lead where all of them do, and give what is left to give
 abbrev pub invariant-loop-call : goal.invariant-loop-call
 invariant-loop-call g l =
-    (end_of_run (parts (record { model = g.H.Card.model; noticed = g.H.Handler.noticed }) g.C.Card) l.rack (drop l.call-index l.calls)
-    ≡ end_of_run (parts (record { model = g.H.Card.model; noticed = g.H.Handler.noticed }) g.C.Card) l.initial.rack l.calls)
-    × (vec_items l.results ++ results_of (parts (record { model = g.H.Card.model; noticed = g.H.Handler.noticed }) g.C.Card) l.rack (drop l.call-index l.calls)
-    ≡ results_of (parts (record { model = g.H.Card.model; noticed = g.H.Handler.noticed }) g.C.Card) l.initial.rack l.calls)
+    (end_of_run (parts_of g.H.Card g.H.Handler g.C.Card) l.rack (drop l.call-index l.calls)
+    ≡ end_of_run (parts_of g.H.Card g.H.Handler g.C.Card) l.initial.rack l.calls)
+    × (vec_items l.results ++ results_of (parts_of g.H.Card g.H.Handler g.C.Card) l.rack (drop l.call-index l.calls)
+    ≡ results_of (parts_of g.H.Card g.H.Handler g.C.Card) l.initial.rack l.calls)

@@ -1,5 +1,5 @@
 use Rattle.std.proofs.Common.{◌≡◌, ◌+◌, ◌-◌, ◌≤◌, ◌++◌, length, vec_items, ap, ◌∙◌, subst, arith, length-append}
-use Rattle.rack.specs.Machine.{parts}
+use Rattle.rack.proofs.Bounds.{parts_of}
 use Rattle.script.specs.Pieces.{lines}
 use Rattle.script.specs.Printing.{printed, room}
 use Rattle.script.specs.Running.{line_gives, line_text}
@@ -9,7 +9,7 @@ use Rattle.script.proofs.running.run_lines.Goals as goal
 
 pub loop-rest-preserved : goal.loop-rest-preserved
 loop-rest-preserved g c =
-    let p = parts (record { model = g.H.Card.model; noticed = g.H.Handler.noticed }) g.C.Card in
+    let p = parts_of g.H.Card g.H.Handler g.C.Card in
     let x = c.loop-rest.rack in
     let n = c.loop-rest.number in
     let t = c.next_line.result.0.now in
@@ -29,6 +29,6 @@ loop-rest-preserved g c =
 
 pub returns : goal.returns
 returns g c = record {
-  prints = printed_all (parts (record { model = g.H.Card.model; noticed = g.H.Handler.noticed }) g.C.Card) c.loop-rest.rack c.loop-rest.number c.loop-rest.rest.now (vec_items c.loop-rest.out) _ c.loop-rest-test.false c.loop-rest.invariant.0;
+  prints = printed_all (parts_of g.H.Card g.H.Handler g.C.Card) c.loop-rest.rack c.loop-rest.number c.loop-rest.rest.now (vec_items c.loop-rest.out) _ c.loop-rest-test.false c.loop-rest.invariant.0;
   bound = omega (arith, c.loop-rest.invariant.2);
 }
