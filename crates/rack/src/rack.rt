@@ -35,10 +35,7 @@ fn answer_of<K: Card>(card: &mut K, level: u8) -> Option<Answer>
     ensures result { result ≡ reply_of (source_of K.Card.model card.old) (pick (source_of K.Card.model card.old) level K.Card.model.sources) }
     ensures after { card.new ≡ if_chosen (pick (source_of K.Card.model card.old) level K.Card.model.sources) (K.Card.model.answered card.old level) card.old }
 {
-    match card.answer(level) {
-        Ok(answer) => answer,
-        Err(_fault) => None,
-    }
+    card.answer(level).unwrap_or(None)
 }
 
 impl<H: Handler, C: Card> Rack<H, C> {

@@ -1,8 +1,10 @@
 // The calls by token. A token must be handed in: acknowledge and return spend it, and a refused call gives it back, the same.
-ghost use Rattle.std.specs.Prelude.{◌≡◌};
+ghost use Rattle.std.specs.Prelude.{◌≡◌, if◌then◌else◌, Ok};
+ghost use Rattle.card.specs.declared.faults.CardFault.TheVariants.{Oversize};
+ghost use Rattle.processor.specs.Tokens.{refused};
 ghost use Rattle.rack.specs.declared.calls.Call.TheVariants.{Take};
-ghost use Rattle.rack.specs.declared.faults.RackFault.TheVariants.{Processor};
-ghost use Rattle.rack.specs.Machine.{parts, rack_leaves};
+ghost use Rattle.rack.specs.declared.faults.RackFault.TheVariants.{Card, Processor};
+ghost use Rattle.rack.specs.Machine.{parts, oversized, rack_leaves};
 ghost use Rattle.rack.specs.Tokens.{token_take_gives, token_acknowledge_gives, token_acknowledge_exit, token_return_gives, token_return_exit};
 
 use crate::calls::Reached;
@@ -30,16 +32,9 @@ impl<H: Handler, C: Card> Rack<H, C> {
         ensures result { result ≡ token_acknowledge_gives (parts H.Handler C.Card) self.old token }
         ensures after { self.new ≡ token_acknowledge_exit (parts H.Handler C.Card) self.old token }
     {
-        if let Err(fault) = Self::fits() {
-            return Err(Refused {
-                fault: RackFault::Card(fault),
-                token,
-            });
-        }
-        match self.processor.acknowledge(token) {
-            Ok((level, service)) => Ok((self.answer_at(level), service)),
-            Err(refused) => Err(of_processor(refused)),
-        }
+        let token = Self::fitting(token)?;
+        let (level, service) = self.processor.acknowledge(token).map_err(of_processor)?;
+        Ok((self.answer_at(level), service))
     }
 
     /// Spends the token of the innermost service, closes it, and gives the mask that is put back.
@@ -50,15 +45,20 @@ impl<H: Handler, C: Card> Rack<H, C> {
         ensures result { result ≡ token_return_gives (parts H.Handler C.Card) self.old token }
         ensures after { self.new ≡ token_return_exit (parts H.Handler C.Card) self.old token }
     {
-        if let Err(fault) = Self::fits() {
-            return Err(Refused {
+        let token = Self::fitting(token)?;
+        self.processor.return_from(token).map_err(of_processor)
+    }
+
+    // The token, if both sides are of a size that can be called; a refusal gives it back.
+    fn fitting<T>(token: T) -> Result<T, Refused<RackFault, T>>
+        ensures { result ≡ (if oversized (parts H.Handler C.Card) then refused (Card Oversize) token else Ok token) }
+    {
+        match Self::fits() {
+            Ok(()) => Ok(token),
+            Err(fault) => Err(Refused {
                 fault: RackFault::Card(fault),
                 token,
-            });
-        }
-        match self.processor.return_from(token) {
-            Ok(mask) => Ok(mask),
-            Err(refused) => Err(of_processor(refused)),
+            }),
         }
     }
 }
