@@ -1,5 +1,6 @@
 -- The rack: what each call gives and leaves, by what its parts give and leave.
 use Rattle.std.specs.Prelude.{ℕ, Bool, true, false, cond, ◌&&◌, ◌||◌, Some, None, Ok, Err, Option, Result}
+use Rattle.std.specs.Result.{result_map_both}
 use Rattle.card.specs.declared.faults.CardFault.{CardFault}
 use Rattle.card.specs.declared.faults.CardFault.TheVariants.{Oversize}
 use Rattle.card.specs.declared.outcomes.Answer.{Answer}
@@ -119,8 +120,7 @@ outcome_of p x (DoneMasked m) = Masked
 outcome_of p x WasReset = reset_outcome p x
 
 abbrev pub done_gives : {H C : Type 0} → Parts H C → State H C → Result Done ProcessorFault → Result Outcome RackFault
-done_gives p x (Ok d) = Ok (outcome_of p x d)
-done_gives p x (Err e) = Err (Processor e)
+done_gives p x r = result_map_both (outcome_of p x) Processor r
 
 -- and what it leaves: an acknowledge and a reset reach the handler and the chain.
 abbrev pub handler_after : {H C : Type 0} → Parts H C → State H C → Result Done ProcessorFault → H
@@ -142,25 +142,20 @@ chain_after p x (Ok WasReset) = p.chain.cleared x.chain
 abbrev pub done_leaves : {H C : Type 0} → Parts H C → State H C → Result Done ProcessorFault → State H C
 done_leaves p x r = record { handler = handler_after p x r; chain = chain_after p x r; processor = after x.processor r }
 
--- A call of a card: its answer comes back unchanged.
-abbrev pub of_card : {A : Type 0} → (A → Outcome) → Result A CardFault → Result Outcome RackFault
-of_card make (Ok a) = Ok (make a)
-of_card make (Err e) = Err (Card e)
-
 abbrev pub with_handler : {H C : Type 0} → State H C → H → State H C
 with_handler x h = record { handler = h; chain = x.chain; processor = x.processor }
 
 abbrev pub with_chain : {H C : Type 0} → State H C → C → State H C
 with_chain x c = record { handler = x.handler; chain = c; processor = x.processor }
 
--- What a rack gives and leaves that fits,
+-- What a rack gives and leaves that fits: the answer of a card comes back unchanged;
 abbrev pub fit_gives : {H C : Type 0} → Parts H C → State H C → Call → Result Outcome RackFault
-fit_gives p x (Drive Local s asserted) = of_card Drove (drive_result p.handler x.handler s asserted)
-fit_gives p x (Drive Chain s asserted) = of_card Drove (drive_result p.chain x.chain s asserted)
-fit_gives p x (Read Local r) = of_card Showed (read_result p.handler x.handler r (bus_lines p x))
-fit_gives p x (Read Chain r) = of_card Showed (read_result p.chain x.chain r (bus_lines p x))
-fit_gives p x (Write Local r v) = of_card Withdrew (write_result p.handler x.handler r v)
-fit_gives p x (Write Chain r v) = of_card Withdrew (write_result p.chain x.chain r v)
+fit_gives p x (Drive Local s asserted) = result_map_both Drove Card (drive_result p.handler x.handler s asserted)
+fit_gives p x (Drive Chain s asserted) = result_map_both Drove Card (drive_result p.chain x.chain s asserted)
+fit_gives p x (Read Local r) = result_map_both Showed Card (read_result p.handler x.handler r (bus_lines p x))
+fit_gives p x (Read Chain r) = result_map_both Showed Card (read_result p.chain x.chain r (bus_lines p x))
+fit_gives p x (Write Local r v) = result_map_both Withdrew Card (write_result p.handler x.handler r v)
+fit_gives p x (Write Chain r v) = result_map_both Withdrew Card (write_result p.chain x.chain r v)
 fit_gives p x (Mask m) = done_gives p x (gives x.processor (MaskIt m))
 fit_gives p x Take = done_gives p x (gives x.processor (TakeIt (presented p x)))
 fit_gives p x Acknowledge = done_gives p x (gives x.processor AcknowledgeIt)
@@ -188,5 +183,4 @@ rack_leaves p x c = cond (oversized p) x (fit_leaves p x c)
 
 -- a result of one kind of call
 abbrev pub outcome : {A : Type 0} → (A → Outcome) → Result A RackFault → Result Outcome RackFault
-outcome make (Ok a) = Ok (make a)
-outcome make (Err e) = Err e
+outcome make r = result_map_both make (λ e. e) r

@@ -56,6 +56,7 @@ impl<H: Handler, C: Card> Rack<H, C> {
         ensures after { self.new ≡ rack_leaves (parts H.Handler C.Card) self.old (Drive side source asserted) }
     {
         Self::fits()?;
+        // The sides are of two types, so a helper that picks one would take a closure for each: no plainer than a match.
         match side {
             Side::Local => Ok(self.handler.drive(source, asserted)?),
             Side::Chain => Ok(self.chain.drive(source, asserted)?),

@@ -3,9 +3,9 @@ ghost use Rattle.std.specs.Prelude.{◌≡◌, if◌then◌else◌, Ok};
 ghost use Rattle.card.specs.declared.faults.CardFault.TheVariants.{Oversize};
 ghost use Rattle.processor.specs.Tokens.{refused};
 ghost use Rattle.rack.specs.declared.calls.Call.TheVariants.{Take};
-ghost use Rattle.rack.specs.declared.faults.RackFault.TheVariants.{Card, Processor};
+ghost use Rattle.rack.specs.declared.faults.RackFault.TheVariants.{Card};
 ghost use Rattle.rack.specs.Machine.{parts, oversized, rack_leaves};
-ghost use Rattle.rack.specs.Tokens.{token_take_gives, token_acknowledge_gives, token_acknowledge_exit, token_return_gives, token_return_exit};
+ghost use Rattle.rack.specs.Tokens.{of_refused, token_take_gives, token_acknowledge_gives, token_acknowledge_exit, token_return_gives, token_return_exit};
 
 use crate::calls::Reached;
 use crate::faults::RackFault;
@@ -63,9 +63,9 @@ impl<H: Handler, C: Card> Rack<H, C> {
     }
 }
 
-// A refusal of the processor, as the rack tells it.
+// A refusal of the processor, as the rack tells it. It can't be a `From`, as neither the trait nor `Refused` is of this crate.
 fn of_processor<T>(refused: Refused<ProcessorFault, T>) -> Refused<RackFault, T>
-    ensures { (result.fault ≡ Processor refused.fault) × (result.token ≡ refused.token) }
+    ensures { result ≡ of_refused refused }
 {
     let Refused { fault, token } = refused;
     Refused {

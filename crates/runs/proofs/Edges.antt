@@ -1,5 +1,6 @@
 -- Each call of a rack balances the edges of every source of either side.
 use Rattle.std.proofs.Common.{◌≡◌, ℕ, ◌+◌, ◌<◌, Bool, true, false, cond, ◌&&◌, eqb, List, Some, None, Ok, Err, Option, Result, sym, refl, ap, arith}
+use Rattle.std.specs.Result.{result_map_both}
 use Rattle.card.specs.declared.faults.CardFault.{CardFault}
 use Rattle.card.specs.declared.faults.CardFault.TheVariants.{Oversize}
 use Rattle.card.specs.declared.outcomes.Driven.{Driven}
@@ -24,7 +25,7 @@ use Rattle.rack.specs.declared.calls.Outcome.{Outcome}
 use Rattle.rack.specs.declared.calls.Outcome.TheVariants.{Drove, Showed, Withdrew}
 use Rattle.rack.specs.declared.faults.RackFault.{RackFault}
 use Rattle.rack.specs.declared.faults.RackFault.TheVariants.{Card, Processor}
-use Rattle.rack.specs.Machine.{Parts, State, source_at, count_at, admitted, bus_lines, presented, chosen_at, reached_by, handler_answered, chain_answered, oversized, of_card, done_gives, done_leaves, fit_gives, fit_leaves, rack_gives, rack_leaves}
+use Rattle.rack.specs.Machine.{Parts, State, source_at, count_at, admitted, bus_lines, presented, chosen_at, reached_by, handler_answered, chain_answered, oversized, done_gives, done_leaves, fit_gives, fit_leaves, rack_gives, rack_leaves}
 use Rattle.runs.specs.Turns.{says, drives_it, tells_latch, latched, is_source, tells_answer, answered, tells_withdrawn, writes_to, withdrew}
 
 and_false : (b : Bool) → (b && false) ≡ false
@@ -32,15 +33,15 @@ and_false true = refl
 and_false false = refl
 
 -- what a call of a card does not tell
-of_card_says : {A : Type 0} (f : Outcome → Bool) (make : A → Outcome) → ((a : A) → f (make a) ≡ false) → (r : Result A CardFault) → says f (of_card make r) ≡ false
+of_card_says : {A : Type 0} (f : Outcome → Bool) (make : A → Outcome) → ((a : A) → f (make a) ≡ false) → (r : Result A CardFault) → says f (result_map_both make Card r) ≡ false
 of_card_says f make h (Ok a) = h a
 of_card_says f make h (Err e) = refl
 
-latch_told : (r : Result Driven CardFault) → says tells_latch (of_card Drove r) ≡ latch r
+latch_told : (r : Result Driven CardFault) → says tells_latch (result_map_both Drove Card r) ≡ latch r
 latch_told (Ok d) = refl
 latch_told (Err e) = refl
 
-withdrawn_told : (z : Side) (s : ℕ) (c : Call) (r : Result Withdrawn CardFault) → says (tells_withdrawn z s c) (of_card Withdrew r) ≡ (writes_to z c && tells s r)
+withdrawn_told : (z : Side) (s : ℕ) (c : Call) (r : Result Withdrawn CardFault) → says (tells_withdrawn z s c) (result_map_both Withdrew Card r) ≡ (writes_to z c && tells s r)
 withdrawn_told z s c (Ok w) = refl
 withdrawn_told z s c (Err e) = sym (and_false (writes_to z c))
 
@@ -102,30 +103,30 @@ module _ {H C : Type 0} (p : Parts H C) (lh : Laws p.handler) (ln : NoticeLaw p.
   done_balance Chain h c d (Ok WasReset) = balanced p Chain s x c (done_gives p x (Ok WasReset)) (done_leaves p x (Ok WasReset)) false false _ (and_false (drives_it Chain s c)) refl refl (omega (arith, cleared_balance p.chain lc x.chain s h))
 
   -- a call of a card that tells nothing of a source
-  card_quiet : {A : Type 0} (z : Side) (c : Call) (make : A → Outcome) (r : Result A CardFault) (y : State H C) → (drives_it z s c && says tells_latch (of_card make r)) ≡ false → ((a : A) → tells_answer z s (make a) ≡ false) → says (tells_withdrawn z s c) (of_card make r) ≡ false
-      → one (source_at p z x s).held ≡ one (source_at p z y s).held → Balance p z s x c (of_card make r) y
-  card_quiet z c make r y el a ew h = quiet p z s x c (of_card make r) y el (of_card_says (tells_answer z s) make a r) ew h
+  card_quiet : {A : Type 0} (z : Side) (c : Call) (make : A → Outcome) (r : Result A CardFault) (y : State H C) → (drives_it z s c && says tells_latch (result_map_both make Card r)) ≡ false → ((a : A) → tells_answer z s (make a) ≡ false) → says (tells_withdrawn z s c) (result_map_both make Card r) ≡ false
+      → one (source_at p z x s).held ≡ one (source_at p z y s).held → Balance p z s x c (result_map_both make Card r) y
+  card_quiet z c make r y el a ew h = quiet p z s x c (result_map_both make Card r) y el (of_card_says (tells_answer z s) make a r) ew h
 
   fit_balance : (z : Side) → s < count_at p z → (c : Call) → Balance p z s x c (fit_gives p x c) (fit_leaves p x c)
   fit_balance Local h (Drive Local t b) =
       let r = drive_result p.handler x.handler t b in
-      balanced p Local s x (Drive Local t b) (of_card Drove r) (fit_leaves p x (Drive Local t b)) (eqb t s && latch r) false false
+      balanced p Local s x (Drive Local t b) (result_map_both Drove Card r) (fit_leaves p x (Drive Local t b)) (eqb t s && latch r) false false
       (ap (λ l. eqb t s && l) (latch_told r)) (of_card_says (tells_answer Local s) Drove (λ d. refl) r) (of_card_says (tells_withdrawn Local s (Drive Local t b)) Drove (λ d. refl) r)
       (omega (arith, drive_balance p.handler lh x.handler s h t b))
   fit_balance Chain h (Drive Chain t b) =
       let r = drive_result p.chain x.chain t b in
-      balanced p Chain s x (Drive Chain t b) (of_card Drove r) (fit_leaves p x (Drive Chain t b)) (eqb t s && latch r) false false
+      balanced p Chain s x (Drive Chain t b) (result_map_both Drove Card r) (fit_leaves p x (Drive Chain t b)) (eqb t s && latch r) false false
       (ap (λ l. eqb t s && l) (latch_told r)) (of_card_says (tells_answer Chain s) Drove (λ d. refl) r) (of_card_says (tells_withdrawn Chain s (Drive Chain t b)) Drove (λ d. refl) r)
       (omega (arith, drive_balance p.chain lc x.chain s h t b))
   fit_balance Local h (Drive Chain t b) = let r = drive_result p.chain x.chain t b in card_quiet Local (Drive Chain t b) Drove r (fit_leaves p x (Drive Chain t b)) refl (λ d. refl) (of_card_says (tells_withdrawn Local s (Drive Chain t b)) Drove (λ d. refl) r) refl
   fit_balance Chain h (Drive Local t b) = let r = drive_result p.handler x.handler t b in card_quiet Chain (Drive Local t b) Drove r (fit_leaves p x (Drive Local t b)) refl (λ d. refl) (of_card_says (tells_withdrawn Chain s (Drive Local t b)) Drove (λ d. refl) r) refl
   fit_balance Local h (Write Local r v) =
       let w = write_result p.handler x.handler r v in
-      balanced p Local s x (Write Local r v) (of_card Withdrew w) (fit_leaves p x (Write Local r v)) false false (tells s w)
+      balanced p Local s x (Write Local r v) (result_map_both Withdrew Card w) (fit_leaves p x (Write Local r v)) false false (tells s w)
       refl (of_card_says (tells_answer Local s) Withdrew (λ d. refl) w) (withdrawn_told Local s (Write Local r v) w) (omega (arith, write_balance p.handler lh x.handler s h r v))
   fit_balance Chain h (Write Chain r v) =
       let w = write_result p.chain x.chain r v in
-      balanced p Chain s x (Write Chain r v) (of_card Withdrew w) (fit_leaves p x (Write Chain r v)) false false (tells s w)
+      balanced p Chain s x (Write Chain r v) (result_map_both Withdrew Card w) (fit_leaves p x (Write Chain r v)) false false (tells s w)
       refl (of_card_says (tells_answer Chain s) Withdrew (λ d. refl) w) (withdrawn_told Chain s (Write Chain r v) w) (omega (arith, write_balance p.chain lc x.chain s h r v))
   fit_balance Local h (Write Chain r v) = let w = write_result p.chain x.chain r v in card_quiet Local (Write Chain r v) Withdrew w (fit_leaves p x (Write Chain r v)) refl (λ d. refl) (withdrawn_told Local s (Write Chain r v) w) refl
   fit_balance Chain h (Write Local r v) = let w = write_result p.handler x.handler r v in card_quiet Chain (Write Local r v) Withdrew w (fit_leaves p x (Write Local r v)) refl (λ d. refl) (withdrawn_told Chain s (Write Local r v) w) refl
