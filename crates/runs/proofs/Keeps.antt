@@ -78,11 +78,11 @@ module _ {H C : Type 0} (p : Parts H C) (x : State H C) where
 
   -- refusals
   card_refused : {A Y : Type 0} (make : A → Outcome) (put : Y → State H C) (o : Option CardFault) (a : A) (after before : Y) → put before ≡ x → (e : RackFault) → result_map_both make Card (unless_refused o a) ≡ Err e → put (changed_unless o after before) ≡ x
-  card_refused make put None a after before same e h = let no_way : ◌≡◌ {A = ℕ} 0 1 = cc in absurd (omega arith)
+  card_refused make put None a after before same e h = grind arith
   card_refused make put (Some d) a after before same e h = same
 
   done_refused : (r : Result Done ProcessorFault) (e : RackFault) → done_gives p x r ≡ Err e → done_leaves p x r ≡ x
-  done_refused (Ok d) e h = let no_way : ◌≡◌ {A = ℕ} 0 1 = cc in absurd (omega arith)
+  done_refused (Ok d) e h = grind arith
   done_refused (Err d) e h = refl
 
   fit_refused : (c : Call) (e : RackFault) → fit_gives p x c ≡ Err e → fit_leaves p x c ≡ x

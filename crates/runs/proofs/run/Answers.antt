@@ -1,7 +1,5 @@
-use Rattle.std.proofs.Common.{◌+◌, false, ◌++◌, get_or, drop, vec_items, sym, refl, ap, ◌∙◌}
+use Rattle.std.proofs.Common.{◌+◌, ◌++◌, drop, vec_items, sym, refl, ap, ◌∙◌}
 use Rattle.std.proofs.lemmas.List.{at_drop_more, at_drop_all, append-nil}
-use Rattle.rack.specs.declared.calls.Call.TheVariants.{Drive}
-use Rattle.rack.specs.declared.calls.Side.TheVariants.{Local}
 use Rattle.rack.specs.Machine.{start}
 use Rattle.rack.proofs.Bounds.{parts_of}
 use Rattle.runs.specs.Turns.{end_of_run, results_of}
@@ -20,10 +18,10 @@ loop-call-preserved g c =
     let y = c.step.new.self in
     let rest = drop (i + 1) calls in (
       ap (λ z. end_of_run p z rest) c.step.ensures.after
-          ∙ sym (at_drop_more (end_of_run p x) calls i (Drive Local 0 false) c.loop-call-test.true)
+          ∙ sym (at_drop_more (end_of_run p x) calls i _ c.loop-call-test.true)
           ∙ c.loop-call.invariant.0,
-      results_more p x y (get_or calls i (Drive Local 0 false)) rest (vec_items c.loop-call.results) (vec_items c.push.new.self) c.step.result c.step.ensures.result c.step.ensures.after c.in_ok-push.ensures.items
-          ∙ ap (λ l. vec_items c.loop-call.results ++ l) (sym (at_drop_more (results_of p x) calls i (Drive Local 0 false) c.loop-call-test.true))
+      results_more p x y _ rest (vec_items c.loop-call.results) (vec_items c.push.new.self) c.step.result c.step.ensures.result c.step.ensures.after c.in_ok-push.ensures.items
+          ∙ ap (λ l. vec_items c.loop-call.results ++ l) (sym (at_drop_more (results_of p x) calls i _ c.loop-call-test.true))
           ∙ c.loop-call.invariant.1,
     )
 
