@@ -7,8 +7,8 @@ use Rattle.script.proofs.running.run_lines.Given as goal
 -- what is printed, with what the rest will print, is all that is to be printed
 abbrev pub invariant-loop-rest : goal.invariant-loop-rest
 invariant-loop-rest g l =
-    (vec_items l.out ++ printed_by (parts_of g.H.Card g.H.Handler g.C.Card) l.rack l.number (lines l.rest)
-    ≡ vec_items l.initial.out ++ printed_by (parts_of g.H.Card g.H.Handler g.C.Card) l.initial.rack 1 (lines l.initial.rest))
+    let p = parts_of g.H.Card g.H.Handler g.C.Card in
+    (vec_items l.out ++ printed_by p l.rack l.number (lines l.rest) ≡ vec_items l.initial.out ++ printed_by p l.initial.rack 1 (lines l.initial.rest))
     × (l.number + length l.rest ≤ 65537)
     × (length (vec_items l.out) + 32 * length l.rest ≤ length (vec_items l.initial.out) + 32 * length l.initial.rest)
 
