@@ -1,5 +1,6 @@
 -- A loop that gathers a test into a byte, one over the sources that gathers the levels asked, and one that finds the source to answer.
-use Rattle.std.proofs.Common.{◌≡◌, ℕ, suc, ◌+◌, ◌<◌, ◌≤◌, Bool, true, false, cond, ◌&&◌, ◌||◌, eqb, ltb, Some, sym, refl, ap, ◌∙◌, subst, ap₂, inl, inr, add-one, arith}
+use Rattle.std.proofs.Common.{◌≡◌, ℕ, zero, suc, ◌+◌, ◌<◌, ◌≤◌, Bool, true, false, cond, ◌&&◌, ◌||◌, eqb, ltb, Some, sym, refl, ap, ◌∙◌, subst, ap₂, inl, inr, add-one, arith}
+use Rattle.std.specs.List.{fold, range_with_len}
 use Rattle.std.proofs.lemmas.Bool.{cases_lt, cases_eq, cases_order, both_ways, lt-ltb, le-ltb, eq-eqb, ne_eqb}
 use Rattle.card.specs.Source.{Source, asking, asking_at, any_asks, pick}
 use Rattle.card.specs.Bits.{bit}
@@ -12,7 +13,7 @@ use Rattle.bits.proofs.Bytes.{bit_byte}
 from_start : (p : ℕ → Bool) (start n : ℕ) → ((n : ℕ) → n < start → p n ≡ false) → (ltb n start && p n) ≡ false
 from_start p start n off = elim (cases_lt n start) [ inl lt ↦ rw (lt-ltb n start lt, off n lt) | inr le ↦ ap (λ b. b && p n) (le-ltb n start le) ]
 
-pub gather_start : (p : ℕ → Bool) (start : ℕ) → ((n : ℕ) → n < start → p n ≡ false) → 0 ≡ byte (λ n. ltb n start && p n)
+gather_start : (p : ℕ → Bool) (start : ℕ) → ((n : ℕ) → n < start → p n ≡ false) → 0 ≡ byte (λ n. ltb n start && p n)
 gather_start p start off = sym (bits_none (λ n. ltb n start && p n) 8 (λ n h. from_start p start n off))
 
 gather_step : (p : ℕ → Bool) (i n : ℕ) → cond (eqb n i) (p i) (ltb n i && p n) ≡ (ltb n (i + 1) && p n)
@@ -22,12 +23,20 @@ gather_step p i n = elim (cases_order n i) [
   | inr (inr more) ↦ rw (ne_eqb n i (λ e. omega arith), le-ltb n i (omega arith), le-ltb n (i + 1) (omega arith))
 ]
 
-pub gather_more : (p : ℕ → Bool) (i m : ℕ) (b : Bool) → m ≡ byte (λ n. ltb n i && p n) → b ≡ p i → put i b m ≡ byte (λ n. ltb n (i + 1) && p n)
+gather_more : (p : ℕ → Bool) (i m : ℕ) (b : Bool) → m ≡ byte (λ n. ltb n i && p n) → b ≡ p i → put i b m ≡ byte (λ n. ltb n (i + 1) && p n)
 gather_more p i m b e f = bits_same (λ n. cond (eqb n i) b (bit m n)) (λ n. ltb n (i + 1) && p n) 8
     (λ n h. ap₂ (λ c d. cond (eqb n i) c d) f (ap (λ k. bit k n) e ∙ bit_byte (λ n. ltb n i && p n) n h) ∙ gather_step p i n)
 
-pub gather_done : (p : ℕ → Bool) (i m : ℕ) → 8 ≤ i → m ≡ byte (λ n. ltb n i && p n) → m ≡ byte p
+gather_done : (p : ℕ → Bool) (i m : ℕ) → 8 ≤ i → m ≡ byte (λ n. ltb n i && p n) → m ≡ byte p
 gather_done p i m past e = e ∙ bits_same (λ n. ltb n i && p n) p 8 (λ n h. ap (λ b. b && p n) (lt-ltb n i (omega arith)))
+
+-- a fold from bit 1 on that gathers a test, which fails at 0
+gather_on : (p : ℕ → Bool) (i k m : ℕ) → m ≡ byte (λ n. ltb n i && p n) → fold (λ x n. put n (p n) x) m (range_with_len i k) ≡ byte (λ n. ltb n (i + k) && p n)
+gather_on p i zero m e = e ∙ ap (λ j. byte (λ n. ltb n j && p n)) (omega arith)
+gather_on p i (suc k) m e = gather_on p (i + 1) k (put i (p i) m) (gather_more p i m (p i) e refl) ∙ ap (λ j. byte (λ n. ltb n j && p n)) (omega arith)
+
+pub gathered : (p : ℕ → Bool) → p 0 ≡ false → fold (λ x n. put n (p n) x) 0 (range_with_len 1 7) ≡ byte p
+gathered p none = gather_on p 1 7 0 (gather_start p 1 (λ n h. ap p (omega arith) ∙ none)) ∙ gather_done p 8 _ (omega arith) refl
 
 pub asked_start : (f : ℕ → Source) → 0 ≡ byte (any_asks f 0)
 unfolding any_asks

@@ -14,7 +14,7 @@ abbrev pub LoomChain : Type 0
 LoomChain = Joined Mc68153 Mc68153
 
 abbrev pub loom_parts : Parts PlainHandler LoomChain
-loom_parts = parts plain_model (λ x n. x) (join mc68153_model mc68153_model)
+loom_parts = parts (record { model = plain_model; noticed = λ x n. x }) (record { model = join mc68153_model mc68153_model })
 
 -- a new rack: processor 1, and every card as made
 abbrev pub loom_start : State PlainHandler LoomChain

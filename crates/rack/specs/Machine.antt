@@ -1,8 +1,10 @@
 -- The rack: what each call gives and leaves, by what its parts give and leave.
 use Rattle.std.specs.Prelude.{ℕ, Bool, true, false, cond, ◌&&◌, ◌||◌, Some, None, Ok, Err, Option, Result}
+use Rattle.std.specs.Result.{result_map_both}
 use Rattle.card.specs.declared.faults.CardFault.{CardFault}
 use Rattle.card.specs.declared.faults.CardFault.TheVariants.{Oversize}
 use Rattle.card.specs.declared.outcomes.Answer.{Answer}
+use Rattle.card.specs.declared.interface.Card.{Ghosts as OfCard}
 use Rattle.card.specs.Source.{Source, any_asks, pick}
 use Rattle.card.specs.Model.{Model, source_of, oversize, drive_result, drive_exit, read_result, write_result, write_exit, withdrawn, levels_asked}
 use Rattle.bits.specs.Bytes.{highest}
@@ -21,7 +23,6 @@ use Rattle.rack.specs.declared.calls.Outcome.{Outcome}
 use Rattle.rack.specs.declared.calls.Outcome.TheVariants.{Drove, Showed, Withdrew, Masked, Took, Answered, Returned, Cleared}
 use Rattle.rack.specs.declared.faults.RackFault.{RackFault}
 use Rattle.rack.specs.declared.faults.RackFault.TheVariants.{Card, Processor}
-use Rattle.rack.specs.declared.rack.Rack.{Rack}
 use Rattle.rack.specs.Words.{spurious_vector}
 
 -- The kinds of a rack's handler and chain, and what a notice does to the handler.
@@ -30,17 +31,15 @@ pub record Parts (H C : Type 0) : Type 0 where
   pub noticed : H → ℕ → H
   pub chain : Model C
 
-abbrev pub parts : {H C : Type 0} → Model H → (H → ℕ → H) → Model C → Parts H C
-parts h n c = record { handler = h; noticed = n; chain = c }
+-- the same, from what the bounds `H: Handler` and `C: Card` say of the two
+abbrev pub parts : {H C : Type 0} → record { model : Model H; noticed : H → ℕ → H } → OfCard C → Parts H C
+parts h c = record { handler = h.model; noticed = h.noticed; chain = c.model }
 
 -- A rack: a handler above a chain, and one processor.
 pub record State (H C : Type 0) : Type 0 where
   pub handler : H
   pub chain : C
   pub processor : Proc
-
-abbrev pub view : {H C : Type 0} → Rack H C → State H C
-view r = record { handler = r.handler; chain = r.chain; processor = r.processor }
 
 -- a rack as it is made
 abbrev pub start : {H C : Type 0} → ℕ → H → C → State H C
@@ -121,8 +120,7 @@ outcome_of p x (DoneMasked m) = Masked
 outcome_of p x WasReset = reset_outcome p x
 
 abbrev pub done_gives : {H C : Type 0} → Parts H C → State H C → Result Done ProcessorFault → Result Outcome RackFault
-done_gives p x (Ok d) = Ok (outcome_of p x d)
-done_gives p x (Err e) = Err (Processor e)
+done_gives p x r = result_map_both (outcome_of p x) Processor r
 
 -- and what it leaves: an acknowledge and a reset reach the handler and the chain.
 abbrev pub handler_after : {H C : Type 0} → Parts H C → State H C → Result Done ProcessorFault → H
@@ -144,25 +142,20 @@ chain_after p x (Ok WasReset) = p.chain.cleared x.chain
 abbrev pub done_leaves : {H C : Type 0} → Parts H C → State H C → Result Done ProcessorFault → State H C
 done_leaves p x r = record { handler = handler_after p x r; chain = chain_after p x r; processor = after x.processor r }
 
--- A call of a card: its answer comes back unchanged.
-abbrev pub of_card : {A : Type 0} → (A → Outcome) → Result A CardFault → Result Outcome RackFault
-of_card make (Ok a) = Ok (make a)
-of_card make (Err e) = Err (Card e)
-
 abbrev pub with_handler : {H C : Type 0} → State H C → H → State H C
 with_handler x h = record { handler = h; chain = x.chain; processor = x.processor }
 
 abbrev pub with_chain : {H C : Type 0} → State H C → C → State H C
 with_chain x c = record { handler = x.handler; chain = c; processor = x.processor }
 
--- What a rack gives and leaves that fits,
+-- What a rack gives and leaves that fits: the answer of a card comes back unchanged;
 abbrev pub fit_gives : {H C : Type 0} → Parts H C → State H C → Call → Result Outcome RackFault
-fit_gives p x (Drive Local s asserted) = of_card Drove (drive_result p.handler x.handler s asserted)
-fit_gives p x (Drive Chain s asserted) = of_card Drove (drive_result p.chain x.chain s asserted)
-fit_gives p x (Read Local r) = of_card Showed (read_result p.handler x.handler r (bus_lines p x))
-fit_gives p x (Read Chain r) = of_card Showed (read_result p.chain x.chain r (bus_lines p x))
-fit_gives p x (Write Local r v) = of_card Withdrew (write_result p.handler x.handler r v)
-fit_gives p x (Write Chain r v) = of_card Withdrew (write_result p.chain x.chain r v)
+fit_gives p x (Drive Local s asserted) = result_map_both Drove Card (drive_result p.handler x.handler s asserted)
+fit_gives p x (Drive Chain s asserted) = result_map_both Drove Card (drive_result p.chain x.chain s asserted)
+fit_gives p x (Read Local r) = result_map_both Showed Card (read_result p.handler x.handler r (bus_lines p x))
+fit_gives p x (Read Chain r) = result_map_both Showed Card (read_result p.chain x.chain r (bus_lines p x))
+fit_gives p x (Write Local r v) = result_map_both Withdrew Card (write_result p.handler x.handler r v)
+fit_gives p x (Write Chain r v) = result_map_both Withdrew Card (write_result p.chain x.chain r v)
 fit_gives p x (Mask m) = done_gives p x (gives x.processor (MaskIt m))
 fit_gives p x Take = done_gives p x (gives x.processor (TakeIt (presented p x)))
 fit_gives p x Acknowledge = done_gives p x (gives x.processor AcknowledgeIt)
@@ -190,5 +183,4 @@ rack_leaves p x c = cond (oversized p) x (fit_leaves p x c)
 
 -- a result of one kind of call
 abbrev pub outcome : {A : Type 0} → (A → Outcome) → Result A RackFault → Result Outcome RackFault
-outcome make (Ok a) = Ok (make a)
-outcome make (Err e) = Err e
+outcome make r = result_map_both make (λ e. e) r

@@ -24,8 +24,17 @@ impl Side {
     }
 }
 
-/// A call of a rack.
-#[derive(Clone, Copy)]
+// As a script prints it.
+impl fmt::Display for Side {
+    ghost output = { λ z. Some (side_word z) };
+
+    fn fmt<W: fmt::Write>(&self, f: &mut fmt::Formatter<W>) -> fmt::Result {
+        f.write_str(self.word())
+    }
+}
+
+/// A call of a rack. Calls are values, and not methods alone, since the law over every run is about lists of them.
+#[derive(Clone, Copy, PartialEq, Eq, Debug)]
 pub enum Call {
     Drive {
         side: Side,
@@ -53,7 +62,7 @@ pub enum Call {
 }
 
 /// Who answered an acknowledge.
-#[derive(Clone, Copy)]
+#[derive(Clone, Copy, PartialEq, Eq, Debug)]
 pub enum Reached {
     /// A source of a side, with its reply.
     At(Side, Answer),
@@ -62,7 +71,7 @@ pub enum Reached {
 }
 
 /// What a granted call gave.
-#[derive(Clone, Copy)]
+#[derive(Clone, Copy, PartialEq, Eq, Debug)]
 pub enum Outcome {
     /// What driving a wire did.
     Drove(Driven),
@@ -89,11 +98,10 @@ impl fmt::Display for Reached {
     fn fmt<W: fmt::Write>(&self, f: &mut fmt::Formatter<W>) -> fmt::Result {
         match *self {
             Reached::At(side, answer) => {
-                let word = side.word();
                 let source = answer.source;
                 match answer.reply {
-                    Reply::Byte(vector) => write!(f, "vector\t{word}\t{source}\t{vector}"),
-                    Reply::Outside => write!(f, "outside\t{word}\t{source}"),
+                    Reply::Byte(vector) => write!(f, "vector\t{side}\t{source}\t{vector}"),
+                    Reply::Outside => write!(f, "outside\t{side}\t{source}"),
                 }
             }
             Reached::Spurious(vector) => write!(f, "spurious\t{vector}"),

@@ -1,9 +1,11 @@
 // The calls by token. A token must be handed in: acknowledge and return spend it, and a refused call gives it back, the same.
-ghost use Rattle.std.specs.Prelude.{◌≡◌};
+ghost use Rattle.std.specs.Prelude.{◌≡◌, if◌then◌else◌, Ok};
+ghost use Rattle.card.specs.declared.faults.CardFault.TheVariants.{Oversize};
+ghost use Rattle.processor.specs.Tokens.{refused};
 ghost use Rattle.rack.specs.declared.calls.Call.TheVariants.{Take};
-ghost use Rattle.rack.specs.declared.faults.RackFault.TheVariants.{Processor};
-ghost use Rattle.rack.specs.Machine.{parts, view, rack_leaves};
-ghost use Rattle.rack.specs.Tokens.{token_take_gives, token_acknowledge_gives, token_acknowledge_exit, token_return_gives, token_return_exit};
+ghost use Rattle.rack.specs.declared.faults.RackFault.TheVariants.{Card};
+ghost use Rattle.rack.specs.Machine.{parts, oversized, rack_leaves};
+ghost use Rattle.rack.specs.Tokens.{of_refused, token_take_gives, token_acknowledge_gives, token_acknowledge_exit, token_return_gives, token_return_exit};
 
 use crate::calls::Reached;
 use crate::faults::RackFault;
@@ -14,8 +16,8 @@ use processor::{ProcessorFault, Refused, ServiceToken, TakenToken};
 impl<H: Handler, C: Card> Rack<H, C> {
     /// Takes the presented level, if it is above the mask, and hands out the token for it.
     pub fn take(&mut self) -> Result<Option<TakenToken>, RackFault>
-        ensures result { result ≡ token_take_gives (parts H.Card.model H.Handler.noticed C.Card.model) (view self.old) }
-        ensures after { view self.new ≡ rack_leaves (parts H.Card.model H.Handler.noticed C.Card.model) (view self.old) Take }
+        ensures result { result ≡ token_take_gives (parts H.Handler C.Card) self.old }
+        ensures after { self.new ≡ rack_leaves (parts H.Handler C.Card) self.old Take }
     {
         Self::fits()?;
         let presented = self.presented_level();
@@ -27,19 +29,12 @@ impl<H: Handler, C: Card> Rack<H, C> {
         &mut self,
         token: TakenToken,
     ) -> Result<(Reached, ServiceToken), Refused<RackFault, TakenToken>>
-        ensures result { result ≡ token_acknowledge_gives (parts H.Card.model H.Handler.noticed C.Card.model) (view self.old) token }
-        ensures after { view self.new ≡ token_acknowledge_exit (parts H.Card.model H.Handler.noticed C.Card.model) (view self.old) token }
+        ensures result { result ≡ token_acknowledge_gives (parts H.Handler C.Card) self.old token }
+        ensures after { self.new ≡ token_acknowledge_exit (parts H.Handler C.Card) self.old token }
     {
-        if let Err(fault) = Self::fits() {
-            return Err(Refused {
-                fault: RackFault::Card(fault),
-                token,
-            });
-        }
-        match self.processor.acknowledge(token) {
-            Ok((level, service)) => Ok((self.answer_at(level), service)),
-            Err(refused) => Err(of_processor(refused)),
-        }
+        let token = Self::fitting(token)?;
+        let (level, service) = self.processor.acknowledge(token).map_err(of_processor)?;
+        Ok((self.answer_at(level), service))
     }
 
     /// Spends the token of the innermost service, closes it, and gives the mask that is put back.
@@ -47,25 +42,30 @@ impl<H: Handler, C: Card> Rack<H, C> {
         &mut self,
         token: ServiceToken,
     ) -> Result<u8, Refused<RackFault, ServiceToken>>
-        ensures result { result ≡ token_return_gives (parts H.Card.model H.Handler.noticed C.Card.model) (view self.old) token }
-        ensures after { view self.new ≡ token_return_exit (parts H.Card.model H.Handler.noticed C.Card.model) (view self.old) token }
+        ensures result { result ≡ token_return_gives (parts H.Handler C.Card) self.old token }
+        ensures after { self.new ≡ token_return_exit (parts H.Handler C.Card) self.old token }
     {
-        if let Err(fault) = Self::fits() {
-            return Err(Refused {
+        let token = Self::fitting(token)?;
+        self.processor.return_from(token).map_err(of_processor)
+    }
+
+    // The token, if both sides are of a size that can be called; a refusal gives it back.
+    fn fitting<T>(token: T) -> Result<T, Refused<RackFault, T>>
+        ensures { result ≡ (if oversized (parts H.Handler C.Card) then refused (Card Oversize) token else Ok token) }
+    {
+        match Self::fits() {
+            Ok(()) => Ok(token),
+            Err(fault) => Err(Refused {
                 fault: RackFault::Card(fault),
                 token,
-            });
-        }
-        match self.processor.return_from(token) {
-            Ok(mask) => Ok(mask),
-            Err(refused) => Err(of_processor(refused)),
+            }),
         }
     }
 }
 
-// A refusal of the processor, as the rack tells it.
+// A refusal of the processor, as the rack tells it. It can't be a `From`, as neither the trait nor `Refused` is of this crate.
 fn of_processor<T>(refused: Refused<ProcessorFault, T>) -> Refused<RackFault, T>
-    ensures { (result.fault ≡ Processor refused.fault) × (result.token ≡ refused.token) }
+    ensures { result ≡ of_refused refused }
 {
     let Refused { fault, token } = refused;
     Refused {

@@ -1,5 +1,6 @@
 -- The law over every run.
 use Rattle.std.proofs.Common.{◌≡◌, ℕ, List, [], ◌∷◌, ◌++◌, Some, None, Ok, Err, Option, Result, sym, refl, ap, ◌∙◌, subst, append_assoc, arith}
+use Rattle.std.specs.Result.{result_map_both}
 use Rattle.card.specs.declared.faults.CardFault.{CardFault}
 use Rattle.card.specs.Model.{unless_refused, changed_unless, drive_fault, write_fault}
 use Rattle.card.specs.Laws.{Laws, NoticeLaw}
@@ -18,7 +19,8 @@ use Rattle.rack.specs.declared.calls.Call.TheVariants.{Drive, Read, Write, Mask,
 use Rattle.rack.specs.declared.calls.Outcome.{Outcome}
 use Rattle.rack.specs.declared.calls.Outcome.TheVariants.{Drove, Showed, Withdrew}
 use Rattle.rack.specs.declared.faults.RackFault.{RackFault}
-use Rattle.rack.specs.Machine.{Parts, State, start, presented, of_card, done_gives, done_leaves, fit_gives, fit_leaves, rack_gives, rack_leaves, with_handler, with_chain}
+use Rattle.rack.specs.declared.faults.RackFault.TheVariants.{Card}
+use Rattle.rack.specs.Machine.{Parts, State, start, presented, done_gives, done_leaves, fit_gives, fit_leaves, rack_gives, rack_leaves, with_handler, with_chain}
 use Rattle.runs.specs.Turns.{event_of, event, results_of}
 use Rattle.runs.specs.Law.{AcknowledgeRight, TakeRight, RefusedWhole, RunKeeps, NoEdges}
 use Rattle.runs.proofs.Edges.{by_size, run_balance}
@@ -47,7 +49,7 @@ seen p x (Ok (DoneReturned m)) = refl
 seen p x (Ok (DoneMasked m)) = refl
 seen p x (Ok WasReset) = refl
 
-quiet_event : {A : Type 0} (make : A → Outcome) → ((a : A) → event_of (Ok (make a)) ≡ other) → (r : Result A CardFault) → event_of (of_card make r) ≡ other
+quiet_event : {A : Type 0} (make : A → Outcome) → ((a : A) → event_of (Ok (make a)) ≡ other) → (r : Result A CardFault) → event_of (result_map_both make Card r) ≡ other
 quiet_event make h (Ok a) = h a
 quiet_event make h (Err e) = refl
 
@@ -75,12 +77,12 @@ module _ {H C : Type 0} (p : Parts H C) (x : State H C) where
   shape c = by_size p x c (λ r y. Shape x.processor y.processor (event_of r)) (stays refl refl) (fit_shape c)
 
   -- refusals
-  card_refused : {A Y : Type 0} (make : A → Outcome) (put : Y → State H C) (o : Option CardFault) (a : A) (after before : Y) → put before ≡ x → (e : RackFault) → of_card make (unless_refused o a) ≡ Err e → put (changed_unless o after before) ≡ x
-  card_refused make put None a after before same e h = let no_way : ◌≡◌ {A = ℕ} 0 1 = cc in absurd (omega arith)
+  card_refused : {A Y : Type 0} (make : A → Outcome) (put : Y → State H C) (o : Option CardFault) (a : A) (after before : Y) → put before ≡ x → (e : RackFault) → result_map_both make Card (unless_refused o a) ≡ Err e → put (changed_unless o after before) ≡ x
+  card_refused make put None a after before same e h = grind arith
   card_refused make put (Some d) a after before same e h = same
 
   done_refused : (r : Result Done ProcessorFault) (e : RackFault) → done_gives p x r ≡ Err e → done_leaves p x r ≡ x
-  done_refused (Ok d) e h = let no_way : ◌≡◌ {A = ℕ} 0 1 = cc in absurd (omega arith)
+  done_refused (Ok d) e h = grind arith
   done_refused (Err d) e h = refl
 
   fit_refused : (c : Call) (e : RackFault) → fit_gives p x c ≡ Err e → fit_leaves p x c ≡ x

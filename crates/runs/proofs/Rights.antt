@@ -16,7 +16,7 @@ use Rattle.processor.proofs.Shapes.{level_in}
 use Rattle.rack.specs.declared.calls.Side.{Side}
 use Rattle.rack.specs.declared.calls.Side.TheVariants.{Local, Chain}
 use Rattle.rack.specs.declared.calls.Call.{Call}
-use Rattle.rack.specs.declared.calls.Call.TheVariants.{Drive, Read, Write, Mask, Take, Acknowledge, Return, Reset}
+use Rattle.rack.specs.declared.calls.Call.TheVariants.{Acknowledge}
 use Rattle.rack.specs.declared.calls.Outcome.{Outcome}
 use Rattle.rack.specs.declared.calls.Outcome.TheVariants.{Answered}
 use Rattle.rack.specs.declared.faults.RackFault.{RackFault}
@@ -52,7 +52,7 @@ module _ {H C : Type 0} (p : Parts H C) (lh : Laws p.handler) (ln : NoticeLaw p.
 
   granted : (o : Outcome) (s : Stage) (q : Proc) (r : Result Outcome RackFault) (y : State H C) → r ≡ done_gives p x (gives_in s q AcknowledgeIt) → y ≡ done_leaves p x (gives_in s q AcknowledgeIt) → r ≡ Ok o → Acknowledged p (level_in s) (turn_at Acknowledge r y) o
   unfolding turn_at
-  granted o Idle q r y e f was = let no_way : ◌≡◌ {A = ℕ} 0 1 = cc in absurd (omega arith)
+  granted o Idle q r y e f was = grind arith
   granted o (Taken n found) q r y e f was =
       let ca = pick_chosen (source_at p Local x) n (count_at p Local) in
       let cb = pick_chosen (source_at p Chain x) n (count_at p Chain) in
@@ -71,12 +71,6 @@ module _ {H C : Type 0} (p : Parts H C) (lh : Laws p.handler) (ln : NoticeLaw p.
 
   pub acknowledge_right : (c : Call) → AcknowledgeRight p (level_in x.processor.state) (turn_of (rack_gives p) (rack_leaves p) x c)
   unfolding turn_at
-  acknowledge_right Acknowledge o e = by_size p x Acknowledge (λ r y. r ≡ Ok o → Acknowledged p (level_in x.processor.state) (turn_at Acknowledge r y) o) (λ h. let no_way : ◌≡◌ {A = ℕ} 0 1 = cc in absurd (omega arith))
-      (λ was. granted o x.processor.state x.processor (fit_gives p x Acknowledge) (fit_leaves p x Acknowledge) refl refl was)
-  acknowledge_right (Drive z s b) o e = let no_way : ◌≡◌ {A = ℕ} 0 1 = cc in absurd (omega arith)
-  acknowledge_right (Read z r) o e = let no_way : ◌≡◌ {A = ℕ} 0 1 = cc in absurd (omega arith)
-  acknowledge_right (Write z r v) o e = let no_way : ◌≡◌ {A = ℕ} 0 1 = cc in absurd (omega arith)
-  acknowledge_right (Mask m) o e = let no_way : ◌≡◌ {A = ℕ} 0 1 = cc in absurd (omega arith)
-  acknowledge_right Take o e = let no_way : ◌≡◌ {A = ℕ} 0 1 = cc in absurd (omega arith)
-  acknowledge_right (Return d) o e = let no_way : ◌≡◌ {A = ℕ} 0 1 = cc in absurd (omega arith)
-  acknowledge_right Reset o e = let no_way : ◌≡◌ {A = ℕ} 0 1 = cc in absurd (omega arith)
+  acknowledge_right c o e = subst (λ d. rack_gives p x d ≡ Ok o → Acknowledged p (level_in x.processor.state) (turn_of (rack_gives p) (rack_leaves p) x d) o) (sym e)
+      (by_size p x Acknowledge (λ r y. r ≡ Ok o → Acknowledged p (level_in x.processor.state) (turn_at Acknowledge r y) o) (λ h. grind arith)
+      (λ was. granted o x.processor.state x.processor (fit_gives p x Acknowledge) (fit_leaves p x Acknowledge) refl refl was))

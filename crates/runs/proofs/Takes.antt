@@ -1,11 +1,10 @@
 -- A take that is not refused gives the presented level if that is above the mask.
-use Rattle.std.proofs.Common.{◌≡◌, ℕ, zero, suc, ◌<◌, ◌≤◌, Bool, true, false, cond, ◌&&◌, ◌||◌, ltb, ◌⊎◌, length, Ok, Err, refl, ap, ◌∙◌, subst, inl, inr, arith}
+use Rattle.std.proofs.Common.{◌≡◌, ℕ, zero, suc, ◌<◌, Bool, true, false, cond, ◌&&◌, ◌||◌, ltb, length, Ok, Err, sym, refl, ap, ◌∙◌, subst, inl, inr, arith}
 use Rattle.std.proofs.lemmas.Bool.{cases_lt, both_ways, or_cases, or_right, and_parts, and_from}
 use Rattle.card.specs.Source.{Source, asking_at, any_asks}
 use Rattle.card.specs.Runs.{turn_of}
 use Rattle.card.proofs.Picks.{any_some}
-use Rattle.bits.specs.Bytes.{highest}
-use Rattle.bits.proofs.Bytes.{highest_le}
+use Rattle.bits.proofs.Bytes.{highest_le, highest_holds, highest_last}
 use Rattle.processor.specs.declared.state.State.{State as Stage}
 use Rattle.processor.specs.declared.state.State.TheVariants.{Idle, Taken}
 use Rattle.processor.specs.declared.state.Done.TheVariants.{Took as DoneTook}
@@ -14,33 +13,12 @@ use Rattle.processor.specs.declared.state.ProcessorCall.TheVariants.{Take as Tak
 use Rattle.processor.specs.Steps.{Proc, above, gives_in}
 use Rattle.rack.specs.declared.calls.Side.TheVariants.{Local, Chain}
 use Rattle.rack.specs.declared.calls.Call.{Call}
-use Rattle.rack.specs.declared.calls.Call.TheVariants.{Drive, Read, Write, Mask, Take, Acknowledge, Return, Reset}
+use Rattle.rack.specs.declared.calls.Call.TheVariants.{Take}
 use Rattle.rack.specs.declared.calls.Outcome.{Outcome}
 use Rattle.rack.specs.declared.calls.Outcome.TheVariants.{Took}
 use Rattle.rack.specs.Machine.{Parts, State, source_at, count_at, admitted, wants, presented, done_gives, rack_gives, rack_leaves}
 use Rattle.runs.specs.Law.{Wanted, Presents, TakeRight}
 use Rattle.runs.proofs.Edges.{by_size}
-
-highest_test : (test : ℕ → Bool) (n : ℕ) → (highest test n ≡ 0) ⊎ (test (highest test n) ≡ true)
-unfolding highest
-highest_test test zero = inl refl
-highest_test test (suc n) = go (test (suc n)) refl (highest_test test n)
-  where
-    go : (b : Bool) → test (suc n) ≡ b → (highest test n ≡ 0) ⊎ (test (highest test n) ≡ true) → (cond b (suc n) (highest test n) ≡ 0) ⊎ (test (cond b (suc n) (highest test n)) ≡ true)
-    go true e h = inr e
-    go false e h = h
-
-highest_top : (test : ℕ → Bool) (n m : ℕ) → highest test n < m → m ≤ n → test m ≡ true → ⊥
-unfolding highest
-highest_top test zero m = λ lt le t. omega arith
-highest_top test (suc n) m = go (test (suc n)) refl (highest_top test n m)
-  where
-    go : (b : Bool) → test (suc n) ≡ b → (highest test n < m → m ≤ n → test m ≡ true → ⊥) → cond b (suc n) (highest test n) < m → m ≤ suc n → test m ≡ true → ⊥
-    go true e ih lt le t = omega arith
-    go false e ih lt le t = elim (cases_lt m (suc n)) [
-      | inl less ↦ ih lt (omega arith) t
-      | inr past ↦ (let same : m ≡ suc n = omega arith in both_ways (test (suc n)) e (subst (λ k. test k ≡ true) same t))
-    ]
 
 some_asks : (f : ℕ → Source) (n k : ℕ) → any_asks f k n ≡ true → (s : ℕ) × (s < k) × (asking_at n (f s) ≡ true)
 unfolding any_asks
@@ -64,24 +42,18 @@ module _ {H C : Type 0} (p : Parts H C) (x : State H C) where
   presents : Presents p x (presented p x)
   presents = record {
     level = highest_le (wants p x) 7;
-    wanted = elim (highest_test (wants p x) 7) [ inl z ↦ inl z | inr t ↦ inr (wants_wanted (presented p x) t) ];
-    top = λ m lt le h. highest_top (wants p x) 7 m lt le (wanted_wants m h);
+    wanted = elim (cases_lt 0 (presented p x)) [ inl some ↦ inr (wants_wanted (presented p x) (highest_holds (wants p x) 7 some)) | inr none ↦ inl (omega arith) ];
+    top = λ m lt le h. both_ways (wants p x m) (highest_last (wants p x) 7 m lt le) (wanted_wants m h);
   }
 
   took_by : (o : Outcome) (s : Stage) (q : Proc) → q.mask ≡ x.processor.mask → done_gives p x (gives_in s q (TakeIt (presented p x))) ≡ Ok o → (n : ℕ) × Presents p x n × (o ≡ Took (above n x.processor.mask))
-  took_by o (Taken n found) q e h = let no_way : ◌≡◌ {A = ℕ} 0 1 = cc in absurd (omega arith)
+  took_by o (Taken n found) q e h = grind arith
   took_by o Idle q e h = go (ltb (length q.services) 16) h
     where
       go : (room : Bool) → done_gives p x (cond room (Ok (DoneTook (above (presented p x) q.mask))) (Err Full)) ≡ Ok o → (n : ℕ) × Presents p x n × (o ≡ Took (above n x.processor.mask))
       go true h = (presented p x, presents, (let same : o ≡ Took (above (presented p x) q.mask) = cc in same ∙ ap (λ m. Took (above (presented p x) m)) e))
-      go false h = let no_way : ◌≡◌ {A = ℕ} 0 1 = cc in absurd (omega arith)
+      go false h = grind arith
 
   pub take_right : (c : Call) → TakeRight p (turn_of (rack_gives p) (rack_leaves p) x c)
-  take_right Take o e = by_size p x Take (λ r y. r ≡ Ok o → (n : ℕ) × Presents p x n × (o ≡ Took (above n x.processor.mask))) (λ h. let no_way : ◌≡◌ {A = ℕ} 0 1 = cc in absurd (omega arith)) (took_by o x.processor.state x.processor refl)
-  take_right (Drive z s b) o e = let no_way : ◌≡◌ {A = ℕ} 0 1 = cc in absurd (omega arith)
-  take_right (Read z r) o e = let no_way : ◌≡◌ {A = ℕ} 0 1 = cc in absurd (omega arith)
-  take_right (Write z r v) o e = let no_way : ◌≡◌ {A = ℕ} 0 1 = cc in absurd (omega arith)
-  take_right (Mask m) o e = let no_way : ◌≡◌ {A = ℕ} 0 1 = cc in absurd (omega arith)
-  take_right Acknowledge o e = let no_way : ◌≡◌ {A = ℕ} 0 1 = cc in absurd (omega arith)
-  take_right (Return d) o e = let no_way : ◌≡◌ {A = ℕ} 0 1 = cc in absurd (omega arith)
-  take_right Reset o e = let no_way : ◌≡◌ {A = ℕ} 0 1 = cc in absurd (omega arith)
+  take_right c o e = subst (λ d. rack_gives p x d ≡ Ok o → (n : ℕ) × Presents p x n × (o ≡ Took (above n x.processor.mask))) (sym e)
+      (by_size p x Take (λ r y. r ≡ Ok o → (n : ℕ) × Presents p x n × (o ≡ Took (above n x.processor.mask))) (λ h. grind arith) (took_by o x.processor.state x.processor refl))

@@ -2,7 +2,7 @@
 #![tactic(auto)]
 
 ghost use Rattle.std.specs.Prelude.{IfOk};
-ghost use Rattle.rack.specs.Machine.{parts, view, start};
+ghost use Rattle.rack.specs.Machine.{parts, start};
 ghost use Rattle.runs.specs.Law.{Ran};
 
 use card::{Card, Handler};
@@ -18,7 +18,7 @@ pub fn run<H: Handler + Drop, C: Card + Drop>(
     chain: C,
     calls: &[Call],
 ) -> Result<(Rack<H, C>, Vec<Result<Outcome, RackFault>>), AllocError>
-    ensures { IfOk result (λ v. Ran (parts H.Card.model H.Handler.noticed C.Card.model) (start number handler chain) calls.now (view v.0) v.1.items) }
+    ensures { IfOk result (λ v. Ran (parts H.Handler C.Card) (start number handler chain) calls.now v.0 v.1.items) }
 {
     let mut rack = Rack::new(number, handler, chain);
     let mut results = Vec::new(heap);

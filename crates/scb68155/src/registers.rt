@@ -91,11 +91,7 @@ impl Registers {
     pub(crate) fn edges(&self) -> u8
         ensures { result ≡ edges self.now }
     {
-        let mut edges = 0;
-        for line in 1..8u8 {
-            edges = with(edges, line, self.is_edge(line));
-        }
-        edges
+        (1..8u8).fold(0, |edges, line| with(edges, line, self.is_edge(line)))
     }
 
     // Whether a line replies with a vector.

@@ -1,5 +1,5 @@
 ghost use Rattle.std.specs.Prelude.{◌≡◌, ◌+◌, ◌*◌, ◌≤◌, ◌++◌, length, IfOk, OnOk};
-ghost use Rattle.rack.specs.Machine.{parts, view, start};
+ghost use Rattle.rack.specs.Machine.{parts, start};
 ghost use Rattle.script.specs.Pieces.{lines};
 ghost use Rattle.script.specs.Running.{line_gives, line_leaves, line_result, line_output, line_exit, printed_by, ScriptRan};
 ghost use Rattle.script.specs.Laws.{StaysIfRefused, Promises};
@@ -14,9 +14,9 @@ use std::alloc::{AllocError, Global};
 
 /// Makes the call of a line on a rack. A line that is refused, as text or by the rack, changes nothing.
 pub fn obey<H: Handler, C: Card>(rack: &mut Rack<H, C>, text: &[u8]) -> Result<Outcome, ScriptFault>
-    ensures result { result ≡ line_gives (parts H.Card.model H.Handler.noticed C.Card.model) (view rack.old) text.now }
-    ensures after { view rack.new ≡ line_leaves (parts H.Card.model H.Handler.noticed C.Card.model) (view rack.old) text.now }
-    ensures refused { StaysIfRefused (view rack.old) result (view rack.new) }
+    ensures result { result ≡ line_gives (parts H.Handler C.Card) rack.old text.now }
+    ensures after { rack.new ≡ line_leaves (parts H.Handler C.Card) rack.old text.now }
+    ensures refused { StaysIfRefused rack.old result rack.new }
 {
     let call = parse(text)?;
     Ok(rack.step(call)?)
@@ -29,9 +29,9 @@ pub fn line<H: Handler, C: Card>(
     text: &[u8],
     out: &mut [u8],
 ) -> Result<usize, ScriptFault>
-    ensures result { result ≡ line_result (parts H.Card.model H.Handler.noticed C.Card.model) (view rack.old) number text.now out.old }
-    ensures prints { out.new ≡ line_output (parts H.Card.model H.Handler.noticed C.Card.model) (view rack.old) number text.now out.old }
-    ensures after { view rack.new ≡ line_exit (parts H.Card.model H.Handler.noticed C.Card.model) (view rack.old) text.now out.old }
+    ensures result { result ≡ line_result (parts H.Handler C.Card) rack.old number text.now out.old }
+    ensures prints { out.new ≡ line_output (parts H.Handler C.Card) rack.old number text.now out.old }
+    ensures after { rack.new ≡ line_exit (parts H.Handler C.Card) rack.old text.now out.old }
 {
     if out.len() < 128 {
         return Err(ScriptFault::ShortOutput);
@@ -48,7 +48,7 @@ fn run_lines<H: Handler, C: Card>(
     out: &mut Vec<u8>,
 ) -> Result<(), AllocError>
     requires { length script.now ≤ 65536 }
-    ensures prints { OnOk result (out.new.items ≡ out.old.items ++ printed_by (parts H.Card.model H.Handler.noticed C.Card.model) (view rack.old) 1 (lines script.now)) }
+    ensures prints { OnOk result (out.new.items ≡ out.old.items ++ printed_by (parts H.Handler C.Card) rack.old 1 (lines script.now)) }
     ensures bound { OnOk result (length out.new.items ≤ length out.old.items + 32 * length script.now) }
 {
     let mut rest = script;
@@ -72,8 +72,8 @@ pub fn run_script<H: Handler + Drop, C: Card + Drop>(
     chain: C,
     script: &[u8],
 ) -> Result<Vec<u8>, AllocError>
-    ensures ran { IfOk result (λ printed. ScriptRan (parts H.Card.model H.Handler.noticed C.Card.model) (start number handler chain) script.now printed.items) }
-    ensures promises { IfOk result (λ printed. Promises (parts H.Card.model H.Handler.noticed C.Card.model) (start number handler chain) script.now printed.items) }
+    ensures ran { IfOk result (λ printed. ScriptRan (parts H.Handler C.Card) (start number handler chain) script.now printed.items) }
+    ensures promises { IfOk result (λ printed. Promises (parts H.Handler C.Card) (start number handler chain) script.now printed.items) }
 {
     let mut rack = Rack::new(number, handler, chain);
     let mut out = Vec::new(heap);

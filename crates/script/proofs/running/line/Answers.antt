@@ -1,6 +1,6 @@
 use Rattle.std.proofs.Common.{◌≡◌, ◌-◌, true, false, ◌++◌, length, drop, Ok, sym, ap, ◌∙◌, rules}
 use Rattle.std.proofs.lemmas.Bool.{lt-ltb, le-ltb, cond-true, cond-false}
-use Rattle.rack.specs.Machine.{parts, view}
+use Rattle.rack.proofs.Bounds.{parts_of}
 use Rattle.script.specs.Printing.{printed, over}
 use Rattle.script.specs.Running.{short, line_text}
 use Rattle.script.specs.Pages.{written}
@@ -9,7 +9,7 @@ use Rattle.script.proofs.running.line.Goals as goal
 pub returns : goal.returns
 returns g c =
     let out = c.args.out.now in
-    let text = line_text (parts g.H.Card.model g.H.Handler.noticed g.C.Card.model) (view c.args.rack.now) c.args.number c.args.text.now in
+    let text = line_text (parts_of g.H.Card g.H.Handler g.C.Card) c.args.rack.now c.args.number c.args.text.now in
     let wide : short out ≡ false = le-ltb (length out) 128 c.if-out-lt128.false in
     let is : written c.show-page.result ≡ text = c.show-page.ensures.text ∙ ap (printed c.args.number) c.obey.ensures.result in
     let len : c.len-len.result ≡ length text = search rules in

@@ -1,5 +1,5 @@
 use Rattle.std.proofs.Common.{◌≡◌, ◌+◌, ◌-◌, ◌≤◌, ◌++◌, length, vec_items, ap, ◌∙◌, subst, arith, length-append}
-use Rattle.rack.specs.Machine.{parts, view}
+use Rattle.rack.proofs.Bounds.{parts_of}
 use Rattle.script.specs.Pieces.{lines}
 use Rattle.script.specs.Printing.{printed, room}
 use Rattle.script.specs.Running.{line_gives, line_text}
@@ -9,8 +9,8 @@ use Rattle.script.proofs.running.run_lines.Goals as goal
 
 pub loop-rest-preserved : goal.loop-rest-preserved
 loop-rest-preserved g c =
-    let p = parts g.H.Card.model g.H.Handler.noticed g.C.Card.model in
-    let x = view c.loop-rest.rack in
+    let p = parts_of g.H.Card g.H.Handler g.C.Card in
+    let x = c.loop-rest.rack in
     let n = c.loop-rest.number in
     let t = c.next_line.result.0.now in
     let rest = length c.loop-rest.rest.now in
@@ -21,7 +21,7 @@ loop-rest-preserved g c =
     let few : length (line_text p x n t) ≤ room (line_gives p x t) =
     subst (λ r. length (printed n r) ≤ room r) c.obey.ensures.result (c.show-page.ensures.short (omega (arith, c.loop-rest.invariant.1))) in
     let fits = line_room p x t (rest - left) (omega (arith, c.next_line.ensures.shorter)) (omega (arith, c.next_line.ensures.whole)) in (
-      printed_more p x (view c.obey.new.rack) n t (lines c.loop-rest.rest.now) (lines c.next_line.result.1.now) (vec_items c.loop-rest.out) c.as_slice.result.now (vec_items c.extend_from_slice.new.self) _
+      printed_more p x c.obey.new.rack n t (lines c.loop-rest.rest.now) (lines c.next_line.result.1.now) (vec_items c.loop-rest.out) c.as_slice.result.now (vec_items c.extend_from_slice.new.self) _
           c.next_line.ensures.lines c.obey.ensures.after c.loop-rest.invariant.0 text c.in_ok-extend_from_slice.ensures.items,
       omega (arith, c.loop-rest.invariant.1, c.next_line.ensures.shorter),
       omega (arith, c.loop-rest.invariant.2, c.next_line.ensures.shorter, added, few, fits),
@@ -29,6 +29,6 @@ loop-rest-preserved g c =
 
 pub returns : goal.returns
 returns g c = record {
-  prints = printed_all (parts g.H.Card.model g.H.Handler.noticed g.C.Card.model) (view c.loop-rest.rack) c.loop-rest.number c.loop-rest.rest.now (vec_items c.loop-rest.out) _ c.loop-rest-test.false c.loop-rest.invariant.0;
+  prints = printed_all (parts_of g.H.Card g.H.Handler g.C.Card) c.loop-rest.rack c.loop-rest.number c.loop-rest.rest.now (vec_items c.loop-rest.out) _ c.loop-rest-test.false c.loop-rest.invariant.0;
   bound = omega (arith, c.loop-rest.invariant.2);
 }

@@ -1,7 +1,6 @@
 use Rattle.std.proofs.Common.{◌∙◌}
-use Rattle.rack.specs.Machine.{parts, view, wants}
 use Rattle.rack.proofs.Presents.{top_of}
 use Rattle.rack.proofs.rack.Rack.presented_level.Goals as goal
 
 pub returns : goal.returns
-returns g c = c.highest_set.ensures.value ∙ top_of (wants (parts g.H.Card.model g.H.Handler.noticed g.C.Card.model) (view c.args.self.now)) _ c.wanted_levels.ensures
+returns g c = c.highest_set.ensures.value ∙ top_of _ c.wanted_levels.ensures

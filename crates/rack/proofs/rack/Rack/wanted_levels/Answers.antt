@@ -1,11 +1,5 @@
-use Rattle.card.specs.Source.{any_asks}
-use Rattle.rack.specs.declared.calls.Side.TheVariants.{Local, Chain}
-use Rattle.rack.specs.Machine.{parts, view, source_at, count_at, admitted}
 use Rattle.rack.proofs.Presents.{wanted_byte}
 use Rattle.rack.proofs.rack.Rack.wanted_levels.Goals as goal
 
 pub returns : goal.returns
-returns g c =
-    let p = parts g.H.Card.model g.H.Handler.noticed g.C.Card.model in
-    let x = view c.args.self.now in
-    wanted_byte (any_asks (source_at p Local x) (count_at p Local)) (any_asks (source_at p Chain x) (count_at p Chain)) (admitted p x) _ _ _ c.asked.ensures c.asked-2.ensures c.admitted_levels.ensures
+returns g c = rw (← c.self.view_is) (wanted_byte _ _ _ c.asked.ensures c.asked-2.ensures (rw (← c.self.view_is) at c.admitted_levels.ensures))

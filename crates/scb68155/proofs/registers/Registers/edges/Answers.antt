@@ -1,10 +1,12 @@
-use Rattle.std.proofs.Common.{◌≡◌, false, refl, ◌∙◌, subst, arith}
-use Rattle.bits.proofs.Loops.{gather_start, gather_more}
+use Rattle.std.proofs.Common.{refl, ◌∙◌, rules}
+use Rattle.std.proofs.lemmas.Iterator.{YieldsList-from_range}
+use Rattle.std.proofs.lemmas.Iterator.Consumers.{fold_from_yields_List}
+use Rattle.bits.specs.Bytes.{put}
+use Rattle.bits.proofs.Loops.{gathered}
 use Rattle.scb68155.specs.Sheet.{is_edge}
 use Rattle.scb68155.proofs.registers.Registers.edges.Goals as goal
 
-pub loop-line-init : goal.loop-line-init
-loop-line-init c = gather_start (is_edge c.args.self.now) 1 (λ n h. let none : 0 ≡ n = omega arith in subst (λ m. is_edge c.args.self.now m ≡ false) none refl)
-
-pub loop-line-preserved : goal.loop-line-preserved
-loop-line-preserved c = c.with-edges.ensures ∙ gather_more (is_edge c.args.self.now) c.loop-line.line c.loop-line.edges c.is_edge.result c.loop-line.invariant c.is_edge.ensures
+pub returns : goal.returns
+returns c =
+    fold_from_yields_List _ (λ edges n. put n (is_edge c.args.self.now n) edges) 0 _ c.fold.ensures.ran (YieldsList-from_range 1 8 7 refl refl) (λ edges n b q k. search rules)
+    ∙ gathered (is_edge c.args.self.now) refl
