@@ -1,20 +1,23 @@
 -- What each call of two joined cards gives and leaves.
-use Rattle.std.proofs.Common.{◌≡◌, ℕ, zero, suc, ◌+◌, ◌-◌, ◌<◌, ◌≤◌, Bool, true, false, not, ◌&&◌, ◌||◌, Some, None, Ok, Err, Option, sym, refl, ◌∙◌, ap₂, inl, inr, add-zero, add-suc, arith}
+use Rattle.std.proofs.Common.{◌≡◌, ℕ, zero, suc, ◌+◌, ◌-◌, ◌<◌, ◌≤◌, Bool, ◌||◌, Some, None, Ok, Err, Option, Result, sym, refl, ap, ◌∙◌, ap₂, inl, inr, add-zero, add-suc, arith}
+use Rattle.std.specs.Prelude.{⊤}
 use lib.Bits.{bit_or}
+use Rattle.std.proofs.Math.Bool.{and-not_self, or-false, or_assoc, or_comm}
 use Rattle.std.proofs.lemmas.Bool.{cases_lt, lt-ltb, le-ltb}
+use Rattle.std.proofs.lemmas.Bool.Decides.{nat_tests}
 use Rattle.card.specs.declared.faults.CardFault.{CardFault}
 use Rattle.card.specs.declared.faults.CardFault.TheVariants.{Oversize, NoSource, NoRegister, NoAccess, BadLevel, NoControl}
 use Rattle.card.specs.declared.outcomes.Answer.{Answer}
+use Rattle.card.specs.declared.outcomes.Driven.{Driven}
+use Rattle.card.specs.declared.withdrawn.Withdrawn.{Withdrawn}
 use Rattle.joined.specs.declared.Joined.{Joined}
 use Rattle.card.specs.Source.{Source, asking_at, any_asks, pick}
 use Rattle.card.specs.Withdrawing.{shifted, union}
 use Rattle.card.specs.Meaning.{Meaning, driving, lost}
-use Rattle.std.proofs.lemmas.Bool.Decides.{nat_tests}
 use Rattle.card.specs.Model.{Model, source_of, size_first, capped_sources, capped_registers, unless_refused, drive_result, read_result, withdrawn, write_result, answer_result, answer_exit, levels_asked}
 use Rattle.card.specs.Laws.{Own, Laws}
 use Rattle.joined.specs.Joining.{source_named, register_named, joined, raised, both, pair, join}
 use Rattle.card.proofs.Picks.{chosen_by}
-use Rattle.std.specs.Prelude.{⊤}
 use Rattle.card.proofs.Bitwise.{bits_or, bits_same}
 use Rattle.card.proofs.Withdrawals.{told_front, told_rear, told_both}
 use Rattle.joined.specs.Joins.{pick_both, front_first, asking_raised}
@@ -30,31 +33,18 @@ lost_front k j f r f' r' s h = rw (lt-ltb s k h)
 lost_rear : (k j : ℕ) (f r f' r' : Meaning) (s : ℕ) → lost (joined k j f r) (joined k j f' r') (k + s) ≡ lost r r' s
 lost_rear k j f r f' r' s = rw (le-ltb (k + s) k (omega arith)) (let e : (k + s) - k ≡ s = omega arith in rw e)
 
-lost_none : (m : Meaning) (s : ℕ) → lost m m s ≡ false
-lost_none m s = go (m.source s).held
-  where
-    go : (h : Bool) → (h && not h) ≡ false
-    go true = refl
-    go false = refl
-
 pub withdrawn_front : (k l j : ℕ) (f r f' : Meaning) → withdrawn (k + l) (joined k j f r) (joined k j f' r) ≡ withdrawn k f f'
-withdrawn_front k l j f r f' = told_front (lost f f') (lost r r) (lost (joined k j f r) (joined k j f' r)) k l (λ s h. lost_front k j f r f' r s h) (λ s h. lost_rear k j f r f' r s) (λ s h. lost_none r s)
+withdrawn_front k l j f r f' = told_front (lost f f') (lost r r) (lost (joined k j f r) (joined k j f' r)) k l (λ s h. lost_front k j f r f' r s h) (λ s h. lost_rear k j f r f' r s) (λ s h. and-not_self (r.source s).held)
 
 pub withdrawn_rear : (k l j : ℕ) (f r r' : Meaning) → k + l ≤ 64 → withdrawn (k + l) (joined k j f r) (joined k j f r') ≡ shifted k (withdrawn l r r')
-withdrawn_rear k l j f r r' h = told_rear (lost f f) (lost r r') (lost (joined k j f r) (joined k j f r')) k l (λ s h. lost_front k j f r f r' s h) (λ s h. lost_rear k j f r f r' s) (λ s h. lost_none f s) h
+withdrawn_rear k l j f r r' h = told_rear (lost f f) (lost r r') (lost (joined k j f r) (joined k j f r')) k l (λ s h. lost_front k j f r f r' s h) (λ s h. lost_rear k j f r f r' s) (λ s h. and-not_self (f.source s).held) h
 
 pub withdrawn_both : (k l j : ℕ) (f r f' r' : Meaning) → k + l ≤ 64 → withdrawn (k + l) (joined k j f r) (joined k j f' r') ≡ union (withdrawn k f f') (shifted k (withdrawn l r r'))
 withdrawn_both k l j f r f' r' h = told_both (lost f f') (lost r r') (lost (joined k j f r) (joined k j f' r')) k l (λ s h. lost_front k j f r f' r' s h) (λ s h. lost_rear k j f r f' r' s) h
 
 -- some source of both asks just if one of either side does
 or_step : (a b c : Bool) → (a || (b || c)) ≡ (b || (a || c))
-or_step true true c = refl
-or_step true false c = refl
-or_step false b c = refl
-
-or_false : (a : Bool) → a ≡ (a || false)
-or_false true = refl
-or_false false = refl
+or_step a b c = sym (or_assoc a b c) ∙ ap (λ u. u || c) (or_comm a b) ∙ or_assoc b a c
 
 any_same : (k n : ℕ) (f g : ℕ → Source) → ((s : ℕ) → s < k → asking_at n (f s) ≡ asking_at n (g s)) → any_asks f k n ≡ any_asks g k n
 unfolding any_asks
@@ -63,7 +53,7 @@ any_same (suc k) n f g e = ap₂ ◌||◌ (e k (omega arith)) (any_same k n f g 
 
 any_both : (k l n : ℕ) (f r : ℕ → Source) → any_asks (both k f r) (k + l) n ≡ (any_asks f k n || any_asks r l n)
 unfolding any_asks
-any_both k zero n f r = rw (add-zero k) (any_same k n (both k f r) f (λ s h. rw (lt-ltb s k h)) ∙ or_false (any_asks f k n))
+any_both k zero n f r = rw (add-zero k) (any_same k n (both k f r) f (λ s h. rw (lt-ltb s k h)) ∙ sym (or-false (any_asks f k n)))
 any_both k (suc l) n f r = rw (add-suc k l)
     (ap₂ ◌||◌ (rw (le-ltb (k + l) k (omega arith)) (let e : (k + l) - k ≡ l = omega arith in rw e (asking_raised n k (r l)))) (any_both k l n f r)
     ∙ or_step (asking_at n (r l)) (any_asks f k n) (any_asks r l n))
@@ -80,8 +70,8 @@ FitsBehind a e = (source_named e + capped_sources a < 256) × (register_named e 
 
 -- what the rear refuses a call on its own source or register with, where the number is a byte behind the front's
 module _ {F R : Type 0} (a : Model F) (b : Model R) (y : R) (own : ℕ) {v : ⊤} (checked : Ok v ≡ unless_refused (size_first (join a b) None) tt) where
-  pub drive_named : (w : Bool) (e : CardFault) → own + capped_sources a < 256 → Err e ≡ drive_result b y own w → FitsBehind a e
-  drive_named w e h was = let same : e ≡ NoSource own = grind (arith, nat_tests, checked, was) in rw same (h, omega arith)
+  pub drive_named : {res : Result Driven CardFault} (w : Bool) (e : CardFault) → own + capped_sources a < 256 → res ≡ drive_result b y own w → res ≡ Err e → FitsBehind a e
+  drive_named w e h gives was = let same : e ≡ NoSource own = grind (arith, nat_tests, checked, gives, was) in rw same (h, omega arith)
 
   module _ (lb : Laws b) (h : own + capped_registers a < 256) where
     own_named : (e : CardFault) → Own own e → FitsBehind a e
@@ -92,16 +82,16 @@ module _ {F R : Type 0} (a : Model F) (b : Model R) (y : R) (own : ℕ) {v : ⊤
     own_named (BadLevel n) h = absurd h
     own_named (NoControl c) any = (omega arith, omega arith)
 
-    pub read_named : (l : ℕ) (e : CardFault) → Err e ≡ read_result b y own l → FitsBehind a e
-    read_named l e was = elim (cases_lt own b.registers) [
-      | inl p ↦ own_named e ((lb.refusing y).reads own l e p (grind (arith, nat_tests, checked, was, p)))
-      | inr p ↦ (let same : e ≡ NoRegister own = grind (arith, nat_tests, checked, was, p) in rw same (omega arith, h))
+    pub read_named : {res : Result ℕ CardFault} (l : ℕ) (e : CardFault) → res ≡ read_result b y own l → res ≡ Err e → FitsBehind a e
+    read_named l e gives was = elim (cases_lt own b.registers) [
+      | inl p ↦ own_named e ((lb.refusing y).reads own l e p (grind (arith, nat_tests, checked, gives, was, p)))
+      | inr p ↦ (let same : e ≡ NoRegister own = grind (arith, nat_tests, checked, gives, was, p) in rw same (omega arith, h))
     ]
 
-    pub write_named : (z : ℕ) (e : CardFault) → Err e ≡ write_result b y own z → FitsBehind a e
-    write_named z e was = elim (cases_lt own b.registers) [
-      | inl p ↦ own_named e ((lb.refusing y).writes own z e p (grind (arith, nat_tests, checked, was, p)))
-      | inr p ↦ (let same : e ≡ NoRegister own = grind (arith, nat_tests, checked, was, p) in rw same (omega arith, h))
+    pub write_named : {res : Result Withdrawn CardFault} (z : ℕ) (e : CardFault) → res ≡ write_result b y own z → res ≡ Err e → FitsBehind a e
+    write_named z e gives was = elim (cases_lt own b.registers) [
+      | inl p ↦ own_named e ((lb.refusing y).writes own z e p (grind (arith, nat_tests, checked, gives, was, p)))
+      | inr p ↦ (let same : e ≡ NoRegister own = grind (arith, nat_tests, checked, gives, was, p) in rw same (omega arith, h))
     ]
 
 -- an answer of the rear, behind k sources
