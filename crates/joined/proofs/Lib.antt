@@ -1,2 +1,1 @@
 pub mod JoinCalls
-pub mod Refuses
