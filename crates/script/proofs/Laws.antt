@@ -1,6 +1,7 @@
 -- What a whole script promises its reader, proved of every text.
 use Rattle.std.proofs.Common.{◌≡◌, ℕ, zero, suc, ◌+◌, ◌*◌, ◌/◌, ◌%◌, ◌≤◌, Bool, true, false, cond, eqb, ltb, List, [], ◌∷◌, ◌++◌, length, Some, None, Ok, Err, decimal, Option, Result, sym, refl, ap, ◌∙◌, subst, append_assoc, arith, lit<, lit≤}
 use Rattle.std.specs.Fmt.{digits, digit_glyph, digits_onto}
+use Rattle.std.specs.List.{onto_first}
 use Rattle.std.specs.Result.{result_map_both}
 use Rattle.std.proofs.lemmas.Nat.{mod_below}
 use Rattle.std.proofs.lemmas.Bool.{lt-ltb, ne_eqb, both_ways, cond-true, cond-false}
@@ -36,7 +37,7 @@ use Rattle.runs.proofs.Edges.{by_size}
 use Rattle.runs.proofs.Keeps.{refused_whole}
 use Rattle.script.specs.declared.faults.ScriptFault.{ScriptFault}
 use Rattle.script.specs.declared.faults.ScriptFault.TheVariants.{ShortOutput, LongLine, UnknownWord, WrongCount, BadField, LongScript, Rack}
-use Rattle.script.specs.Pieces.{onto, pieces, lines}
+use Rattle.script.specs.Pieces.{lines}
 use Rattle.script.specs.Parse.{parsed}
 use Rattle.script.specs.Printing.{result_fields, printed}
 use Rattle.script.specs.Running.{of_rack, gives_by, leaves_by, line_gives, line_leaves, printed_by, too_long, output}
@@ -54,13 +55,13 @@ all_unbroken (f ∷ fs) = cond (unbroken f) (all_unbroken fs) false
 
 -- such a text is one line
 first_line : (o rest : List ℕ) → unbroken o ≡ true → lines (o ++ 10 ∷ rest) ≡ o ∷ lines rest
-unfolding pieces
+unfolding lines
 first_line [] rest h = refl
 first_line (b ∷ bs) rest h = go (eqb b 10) h (first_line bs rest)
   where
-    go : (v : Bool) → cond v false (unbroken bs) ≡ true → (unbroken bs ≡ true → lines (bs ++ 10 ∷ rest) ≡ bs ∷ lines rest) → cond v ([] ∷ lines (bs ++ 10 ∷ rest)) (onto b (lines (bs ++ 10 ∷ rest))) ≡ (b ∷ bs) ∷ lines rest
+    go : (v : Bool) → cond v false (unbroken bs) ≡ true → (unbroken bs ≡ true → lines (bs ++ 10 ∷ rest) ≡ bs ∷ lines rest) → cond v ([] ∷ lines (bs ++ 10 ∷ rest)) (onto_first b (lines (bs ++ 10 ∷ rest))) ≡ (b ∷ bs) ∷ lines rest
     go true e f = absurd (both_ways false refl e)
-    go false e f = ap (onto b) (f e)
+    go false e f = ap (onto_first b) (f e)
 
 unbroken_append : (a b : List ℕ) → unbroken a ≡ true → unbroken b ≡ true → unbroken (a ++ b) ≡ true
 unbroken_append [] b h g = g
@@ -214,7 +215,7 @@ module _ {H C : Type 0} (p : Parts H C) (x : State H C) where
 
 -- One output line for each line.
 pub line_by_line : {H C : Type 0} (p : Parts H C) (x : State H C) (n : ℕ) (ts : List (List ℕ)) → LineByLine p x n ts (lines (printed_by p x n ts))
-unfolding pieces printed
+unfolding lines printed
 line_by_line p x n [] = tt
 line_by_line p x n (t ∷ ts) =
     let fs = result_fields (line_gives p x t) in

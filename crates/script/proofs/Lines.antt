@@ -5,7 +5,7 @@ use Rattle.rack.specs.declared.calls.Call.{Call}
 use Rattle.rack.specs.Machine.{Parts, State}
 use Rattle.runs.specs.Turns.{results_of}
 use Rattle.script.specs.declared.faults.ScriptFault.{ScriptFault}
-use Rattle.script.specs.Pieces.{pieces, lines}
+use Rattle.script.specs.Pieces.{lines}
 use Rattle.script.specs.Parse.{parsed}
 use Rattle.script.specs.Printing.{printed}
 use Rattle.script.specs.Running.{gives_by, leaves_by, line_text, line_leaves, and_call, calls_of, told_by, told, printed_by}
@@ -26,7 +26,7 @@ printed_more p x y n t ls ts out more now all cut after h e f =
     ∙ h
 
 no_lines : (rest : List ℕ) → length rest ≤ 0 → lines rest ≡ []
-unfolding pieces
+unfolding lines
 no_lines [] h = refl
 no_lines (x ∷ xs) h = absurd (omega arith)
 

@@ -1,28 +1,26 @@
-use Rattle.std.proofs.Common.{◌≡◌, ◌-◌, true, false, ◌++◌, length, drop, Ok, sym, ap, ◌∙◌, rules}
+use Rattle.std.proofs.Common.{◌≡◌, true, false, length, Ok, sym, ap, ◌∙◌, rules}
 use Rattle.std.proofs.lemmas.Bool.{lt-ltb, le-ltb, cond-true, cond-false}
 use Rattle.rack.specs.Machine.{parts, view}
-use Rattle.script.specs.Printing.{printed, over}
+use Rattle.script.specs.Printing.{printed}
 use Rattle.script.specs.Running.{short, line_text}
-use Rattle.script.specs.Pages.{written}
 use Rattle.script.proofs.running.line.Goals as goal
 
 pub returns : goal.returns
 returns g c =
     let out = c.args.out.now in
     let text = line_text (parts g.H.Card.model g.H.Handler.noticed g.C.Card.model) (view c.args.rack.now) c.args.number c.args.text.now in
-    let wide : short out ≡ false = le-ltb (length out) 128 c.if-out-lt128.false in
-    let is : written c.show-page.result ≡ text = c.show-page.ensures.text ∙ ap (printed c.args.number) c.obey.ensures.result in
-    let len : c.len-len.result ≡ length text = search rules in
-    let prints : c.copy_from_slice.new.self ++ drop (c.len-len.result - 0) out ≡ over text out = search rules in
+    let wide : short out ≡ false = le-ltb (length out) 128 c.if-out-lt-LINE_ROOM.false in
+    let is : c.show-page.result.bytes ≡ text = c.show-page.ensures.text ∙ ap (printed c.args.number) c.obey.ensures.result in
+    let now : c.as_bytes-printed.result.now ≡ text = search rules in
     record {
-      result = ap Ok len ∙ sym (cond-false (short out) _ _ wide);
-      prints = prints ∙ sym (cond-false (short out) _ _ wide);
+      result = ap (λ t. Ok (length t)) now ∙ sym (cond-false (short out) _ _ wide);
+      prints = search rules ∙ sym (cond-false (short out) _ _ wide);
       after = c.obey.ensures.after ∙ sym (cond-false (short out) _ _ wide);
     }
 
-pub returns-then-out-lt128 : goal.returns-then-out-lt128
-returns-then-out-lt128 g c =
-    let narrow : short c.args.out.now ≡ true = lt-ltb (length c.args.out.now) 128 c.if-out-lt128.true in
+pub returns-then-out-lt-LINE_ROOM : goal.returns-then-out-lt-LINE_ROOM
+returns-then-out-lt-LINE_ROOM g c =
+    let narrow : short c.args.out.now ≡ true = lt-ltb (length c.args.out.now) 128 c.if-out-lt-LINE_ROOM.true in
     record {
       result = sym (cond-true (short c.args.out.now) _ _ narrow);
       prints = sym (cond-true (short c.args.out.now) _ _ narrow);

@@ -1,34 +1,31 @@
-use Rattle.std.proofs.Common.{◌≡◌, ◌+◌, ◌-◌, ◌≤◌, ◌++◌, length, vec_items, ap, ◌∙◌, subst, arith, length-append}
+use Rattle.std.proofs.Common.{◌≡◌, ◌+◌, ◌-◌, ◌≤◌, ◌<◌, ◌∷◌, length, vec_items, subst, arith, rules}
 use Rattle.rack.specs.Machine.{parts, view}
 use Rattle.script.specs.Pieces.{lines}
 use Rattle.script.specs.Printing.{printed, room}
 use Rattle.script.specs.Running.{line_gives, line_text}
-use Rattle.script.proofs.Lines.{printed_more, printed_all}
+use Rattle.script.proofs.Lines.{printed_more}
 use Rattle.script.proofs.Sizes.{line_room}
 use Rattle.script.proofs.running.run_lines.Goals as goal
 
-pub loop-rest-preserved : goal.loop-rest-preserved
-loop-rest-preserved g c =
+pub loop-number-preserved : goal.loop-number-preserved
+loop-number-preserved g c =
     let p = parts g.H.Card.model g.H.Handler.noticed g.C.Card.model in
-    let x = view c.loop-rest.rack in
-    let n = c.loop-rest.number in
-    let t = c.next_line.result.0.now in
-    let rest = length c.loop-rest.rest.now in
-    let left = length c.next_line.result.1.now in
-    let text : c.as_slice.result.now ≡ line_text p x n t = c.as_slice.ensures.value ∙ c.show-page.ensures.text ∙ ap (printed n) c.obey.ensures.result in
-    let added : length (vec_items c.extend_from_slice.new.self) ≡ length (vec_items c.loop-rest.out) + length (line_text p x n t) =
-    ap length (c.in_ok-extend_from_slice.ensures.items ∙ ap (λ s. vec_items c.loop-rest.out ++ s) text) ∙ length-append (vec_items c.loop-rest.out) (line_text p x n t) in
-    let few : length (line_text p x n t) ≤ room (line_gives p x t) =
-    subst (λ r. length (printed n r) ≤ room r) c.obey.ensures.result (c.show-page.ensures.short (omega (arith, c.loop-rest.invariant.1))) in
-    let fits = line_room p x t (rest - left) (omega (arith, c.next_line.ensures.shorter)) (omega (arith, c.next_line.ensures.whole)) in (
-      printed_more p x (view c.obey.new.rack) n t (lines c.loop-rest.rest.now) (lines c.next_line.result.1.now) (vec_items c.loop-rest.out) c.as_slice.result.now (vec_items c.extend_from_slice.new.self) _
-          c.next_line.ensures.lines c.obey.ensures.after c.loop-rest.invariant.0 text c.in_ok-extend_from_slice.ensures.items,
-      omega (arith, c.loop-rest.invariant.1, c.next_line.ensures.shorter),
-      omega (arith, c.loop-rest.invariant.2, c.next_line.ensures.shorter, added, few, fits),
+    let x = view c.loop-number.rack in
+    let n = c.in-Some.number in
+    let t = c.in-Some.text.now in
+    let before = c.loop-number.number-iterator.b.rest.now in
+    let after = c.next.new.self.b.rest.now in
+    let numbered : n ≡ c.loop-number.number-iterator.a.start = search rules in
+    let counts : c.next.new.self.a.start ≡ n + 1 = search rules in
+    let cut : lines before ≡ t ∷ lines after = search rules in
+    let shorter : length after < length before = search rules in
+    let whole : length t + length after ≤ length before = search rules in
+    let text : c.as_bytes.result.now ≡ line_text p x n t = search rules in
+    let added : length (vec_items c.extend_from_slice.new.self) ≡ length (vec_items c.loop-number.out) + length (line_text p x n t) = search rules in
+    let few : length (line_text p x n t) ≤ room (line_gives p x t) = subst (λ r. length (printed n r) ≤ room r) c.obey.ensures.result (c.show-page.ensures.short (omega (arith, c.loop-number.invariant.1, numbered))) in
+    let fits = line_room p x t (length before - length after) (omega (arith, shorter)) (omega (arith, whole)) in (
+      rw counts (printed_more p x (view c.obey.new.rack) n t (lines before) (lines after) (vec_items c.loop-number.out) c.as_bytes.result.now (vec_items c.extend_from_slice.new.self) _
+          cut c.obey.ensures.after (rw numbered c.loop-number.invariant.0) text c.in_ok-extend_from_slice.ensures.items),
+      omega (arith, c.loop-number.invariant.1, numbered, counts, shorter),
+      omega (arith, c.loop-number.invariant.2, shorter, added, few, fits),
     )
-
-pub returns : goal.returns
-returns g c = record {
-  prints = printed_all (parts g.H.Card.model g.H.Handler.noticed g.C.Card.model) (view c.loop-rest.rack) c.loop-rest.number c.loop-rest.rest.now (vec_items c.loop-rest.out) _ c.loop-rest-test.false c.loop-rest.invariant.0;
-  bound = omega (arith, c.loop-rest.invariant.2);
-}
