@@ -1,6 +1,6 @@
 ghost use Rattle.std.specs.Prelude.{◌≡◌, ◌==◌};
 ghost use Rattle.script.specs.Pieces.{fields};
-ghost use Rattle.script.specs.Format.{numeral};
+ghost use Rattle.script.specs.Format.{all_digits, numeral};
 ghost use Rattle.script.specs.Parse.{single, both, with, call_of, parsed};
 ghost use Rattle.rack.specs.declared.calls.Call.TheVariants.{Drive, Read, Write};
 
@@ -13,11 +13,17 @@ use std::str;
 // The most bytes that a line may have.
 const LONGEST_LINE: usize = 80;
 
+fn all_digits(text: &[u8]) -> bool
+    ensures { result ≡ all_digits text.now }
+{
+    text.iter().all(u8::is_ascii_digit)
+}
+
 // One to three digits, of a number up to `top`.
 fn number(digits: &[u8], top: u8) -> Option<u8>
     ensures { result ≡ numeral top digits.now }
 {
-    if digits.len() > 3 || !digits.iter().all(u8::is_ascii_digit) {
+    if digits.len() > 3 || !all_digits(digits) {
         return None;
     }
     let value = str::from_utf8(digits).ok()?.parse::<u8>().ok()?;
@@ -48,16 +54,14 @@ fn call_of(word: Word, text: &[u8]) -> Result<Call, ScriptFault>
         Word::Get => read(Side::Chain, text),
         Word::LocalPut => write(Side::Local, text),
         Word::LocalGet => read(Side::Local, text),
-        Word::Mask => {
-            let mask = one_number(text)?;
-            Ok(Call::Mask { mask })
-        }
+        Word::Mask => Ok(Call::Mask {
+            mask: one_number(text)?,
+        }),
         Word::Take => Ok(Call::Take),
         Word::Ack => Ok(Call::Acknowledge),
-        Word::Back => {
-            let depth = one_number(text)?;
-            Ok(Call::Return { depth })
-        }
+        Word::Back => Ok(Call::Return {
+            depth: one_number(text)?,
+        }),
         Word::Reset => Ok(Call::Reset),
     }
 }
@@ -87,8 +91,10 @@ fn write(side: Side, text: &[u8]) -> Result<Call, ScriptFault>
 fn read(side: Side, text: &[u8]) -> Result<Call, ScriptFault>
     ensures { result ≡ with (Read side) (single (fields text.now)) }
 {
-    let register = one_number(text)?;
-    Ok(Call::Read { side, register })
+    Ok(Call::Read {
+        side,
+        register: one_number(text)?,
+    })
 }
 
 /// The call that a line makes. The line's byte 10 is not part of it.

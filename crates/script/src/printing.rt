@@ -1,4 +1,4 @@
-ghost use Rattle.std.specs.Prelude.{◌≡◌, ◌+◌, ◌<◌, ◌≤◌, ◌∷◌, ◌++◌, length, decimal};
+ghost use Rattle.std.specs.Prelude.{◌≡◌, ◌+◌, ◌<◌, ◌≤◌, ◌∷◌, ◌++◌, length};
 ghost use Rattle.arrayvec.specs.ArrayString.{array_string_len};
 ghost use Rattle.card.specs.Words.{after, refusal_fields};
 ghost use Rattle.rack.specs.Words.{reached_fields, outcome_fields};
@@ -7,7 +7,7 @@ ghost use Rattle.script.specs.Printing.{printed, room};
 use crate::faults::ScriptFault;
 use arrayvec::ArrayString;
 use card::{Refusal, Reply};
-use itoa::Buffer;
+use itoa::{Buffer, Integer};
 use rack::{Outcome, Reached};
 
 /// The most bytes that a printed line takes.
@@ -17,6 +17,9 @@ pub(crate) const LINE_ROOM: usize = 128;
 pub(crate) type Page = ArrayString<LINE_ROOM>;
 
 // A field: a tab and the text.
+//
+// `write!` and `Display` would print the same, but their contracts say only what a print writes that succeeds, and not that it does; the
+// print of a line can't fail.
 fn push_word(page: &mut Page, word: &str)
     requires { array_string_len page.old + 1 + length word.now ≤ 128 }
     ensures text { page.new.bytes ≡ page.old.bytes ++ 9 ∷ word.now }
@@ -27,20 +30,10 @@ fn push_word(page: &mut Page, word: &str)
 }
 
 // A field that is a number.
-fn push_number(page: &mut Page, number: u64)
-    requires { array_string_len page.old ≤ 107 }
-    ensures text { page.new.bytes ≡ page.old.bytes ++ 9 ∷ decimal number }
-    ensures len { array_string_len page.new ≡ array_string_len page.old + 1 + length (decimal number) }
-    ensures bound { array_string_len page.new ≤ array_string_len page.old + 21 }
-{
-    push_word(page, Buffer::new().format(number));
-}
-
-// A field that is a byte.
-fn push_byte(page: &mut Page, number: u8)
-    requires { array_string_len page.old ≤ 107 }
-    ensures text { page.new.bytes ≡ page.old.bytes ++ 9 ∷ decimal number }
-    ensures bound { array_string_len page.new ≤ array_string_len page.old + 4 }
+fn push_number<I: Integer>(page: &mut Page, number: I)
+    requires { array_string_len page.old + 1 + I.MAX_STR_LEN ≤ 128 }
+    ensures text { page.new.bytes ≡ page.old.bytes ++ 9 ∷ I.text number }
+    ensures bound { array_string_len page.new ≤ array_string_len page.old + 1 + I.MAX_STR_LEN }
 {
     push_word(page, Buffer::new().format(number));
 }
@@ -56,18 +49,18 @@ fn show_reached(page: &mut Page, reached: Reached)
             Reply::Byte(vector) => {
                 push_word(page, "vector");
                 push_word(page, side.word());
-                push_byte(page, answer.source);
-                push_byte(page, vector);
+                push_number(page, answer.source);
+                push_number(page, vector);
             }
             Reply::Outside => {
                 push_word(page, "outside");
                 push_word(page, side.word());
-                push_byte(page, answer.source);
+                push_number(page, answer.source);
             }
         },
         Reached::Spurious(vector) => {
             push_word(page, "spurious");
-            push_byte(page, vector);
+            push_number(page, vector);
         }
     }
 }
@@ -82,7 +75,7 @@ fn show_outcome(page: &mut Page, outcome: Outcome)
         Outcome::Drove(driven) => push_word(page, driven.word()),
         Outcome::Showed(value) => {
             push_word(page, "byte");
-            push_byte(page, value);
+            push_number(page, value);
         }
         Outcome::Withdrew(withdrawn) => {
             push_word(page, "drop");
@@ -92,12 +85,12 @@ fn show_outcome(page: &mut Page, outcome: Outcome)
         Outcome::Took(None) => push_word(page, "none"),
         Outcome::Took(Some(level)) => {
             push_word(page, "level");
-            push_byte(page, level);
+            push_number(page, level);
         }
         Outcome::Answered(reached) => show_reached(page, reached),
         Outcome::Returned(mask) => {
             push_word(page, "mask");
-            push_byte(page, mask);
+            push_number(page, mask);
         }
         Outcome::Cleared(chain, local) => {
             push_word(page, "drop");
@@ -114,9 +107,9 @@ fn show_refusal(page: &mut Page, refusal: Refusal)
     ensures grows { array_string_len page.new ≤ array_string_len page.old + 24 }
 {
     push_word(page, "refused");
-    push_byte(page, refusal.number);
+    push_number(page, refusal.number);
     push_word(page, refusal.layer.word());
-    push_byte(page, refusal.place);
+    push_number(page, refusal.place);
 }
 
 // The printed line of a result.

@@ -1,9 +1,9 @@
-use Rattle.std.proofs.Common.{◌≡◌, ◌+◌, ◌-◌, ◌≤◌, ◌<◌, ◌∷◌, length, vec_items, subst, arith, rules}
+use Rattle.std.proofs.Common.{◌≡◌, ◌+◌, ◌-◌, ◌≤◌, ◌<◌, ◌∷◌, ◌++◌, length, vec_items, sym, ap, ◌∙◌, subst, append_assoc, arith, rules}
 use Rattle.rack.specs.Machine.{parts, view}
 use Rattle.script.specs.Pieces.{lines}
 use Rattle.script.specs.Printing.{printed, room}
-use Rattle.script.specs.Running.{line_gives, line_text}
-use Rattle.script.proofs.Lines.{printed_more}
+use Rattle.script.specs.Running.{line_gives, line_text, line_leaves, printed_by}
+use Rattle.script.proofs.Lines.{printed_step}
 use Rattle.script.proofs.Sizes.{line_room}
 use Rattle.script.proofs.running.run_lines.Goals as goal
 
@@ -23,9 +23,10 @@ loop-number-preserved g c =
     let text : c.as_bytes.result.now ≡ line_text p x n t = search rules in
     let added : length (vec_items c.extend_from_slice.new.self) ≡ length (vec_items c.loop-number.out) + length (line_text p x n t) = search rules in
     let few : length (line_text p x n t) ≤ room (line_gives p x t) = subst (λ r. length (printed n r) ≤ room r) c.obey.ensures.result (c.show-page.ensures.short (omega (arith, c.loop-number.invariant.1, numbered))) in
-    let fits = line_room p x t (length before - length after) (omega (arith, shorter)) (omega (arith, whole)) in (
-      rw counts (printed_more p x (view c.obey.new.rack) n t (lines before) (lines after) (vec_items c.loop-number.out) c.as_bytes.result.now (vec_items c.extend_from_slice.new.self) _
-          cut c.obey.ensures.after (rw numbered c.loop-number.invariant.0) text c.in_ok-extend_from_slice.ensures.items),
+    let fits = line_room p x t (length before - length after) (omega (arith, shorter)) (omega (arith, whole)) in
+    let step : printed_by p x n (lines before) ≡ line_text p x n t ++ printed_by p (line_leaves p x t) (n + 1) (lines after) = ap (printed_by p x n) cut ∙ printed_step p x n t (lines after) in
+    let joined = append_assoc (vec_items c.loop-number.out) (line_text p x n t) (printed_by p (line_leaves p x t) (n + 1) (lines after)) in (
+      rw (counts, c.in_ok-extend_from_slice.ensures.items, text, c.obey.ensures.after, joined) (ap (λ s. vec_items c.loop-number.out ++ s) (sym step) ∙ rw numbered c.loop-number.invariant.0),
       omega (arith, c.loop-number.invariant.1, numbered, counts, shorter),
       omega (arith, c.loop-number.invariant.2, shorter, added, few, fits),
     )
