@@ -1,11 +1,9 @@
 -- A script line by line: what one line adds to what is printed.
-use Rattle.std.proofs.Common.{◌≡◌, ℕ, ◌+◌, ◌≤◌, List, [], ◌∷◌, ◌++◌, length, Ok, Err, Result, sym, refl, ap, ◌∙◌, append_assoc, arith}
-use Rattle.std.proofs.lemmas.List.{append-nil}
+use Rattle.std.proofs.Common.{◌≡◌, ℕ, ◌+◌, List, ◌∷◌, ◌++◌, Ok, Err, Result, refl}
 use Rattle.rack.specs.declared.calls.Call.{Call}
 use Rattle.rack.specs.Machine.{Parts, State}
 use Rattle.runs.specs.Turns.{results_of}
 use Rattle.script.specs.declared.faults.ScriptFault.{ScriptFault}
-use Rattle.script.specs.Pieces.{lines}
 use Rattle.script.specs.Parse.{parsed}
 use Rattle.script.specs.Printing.{printed}
 use Rattle.script.specs.Running.{gives_by, leaves_by, line_text, line_leaves, and_call, calls_of, told_by, told, printed_by}

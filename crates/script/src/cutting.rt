@@ -4,6 +4,8 @@ ghost use Rattle.script.specs.Pieces.{lines, fields};
 ghost use Rattle.script.specs.Parse.{field_at};
 
 /// The lines of a text, each without the byte that ends it.
+///
+/// It is an iterator of its own, since rattle proves no loop over `split_inclusive` in a function that is generic.
 #[derive(Drop)]
 pub(crate) struct Lines<'a> {
     rest: &'a [u8],

@@ -113,6 +113,7 @@ fn show_refusal(page: &mut Page, refusal: Refusal)
 }
 
 // The printed line of a result.
+#[tactic(auto, unfolding(crate::specs::Printing::printed))]
 pub(crate) fn show(number: u64, given: Result<Outcome, ScriptFault>) -> Page
     ensures text { result.bytes ≡ printed number given }
     ensures bound { length (printed number given) ≤ 128 }
