@@ -1,9 +1,11 @@
 -- What a whole script promises its reader, proved of every text.
-use Rattle.std.proofs.Common.{◌≡◌, ℕ, zero, suc, ◌+◌, ◌*◌, ◌/◌, ◌%◌, ◌≤◌, Bool, true, false, cond, eqb, ltb, List, [], ◌∷◌, ◌++◌, length, Some, None, Ok, Err, decimal, Option, Result, sym, refl, ap, ◌∙◌, subst, append_assoc, arith, lit<, lit≤}
+use Rattle.std.proofs.Common.{◌≡◌, ℕ, zero, suc, ◌+◌, ◌*◌, ◌/◌, ◌%◌, ◌≤◌, Bool, true, false, not, ◌&&◌, cond, eqb, ltb, List, [], ◌∷◌, ◌++◌, length, Some, None, Ok, Err, decimal, Option, Result, sym, refl, ap, ◌∙◌, subst, append_assoc, arith, lit<, lit≤}
 use Rattle.std.specs.Fmt.{digits, digit_glyph, digits_onto}
+use Rattle.std.specs.List.{list_all, onto_first, AllByRecursion}
 use Rattle.std.specs.Result.{result_map_both}
 use Rattle.std.proofs.lemmas.Nat.{mod_below}
-use Rattle.std.proofs.lemmas.Bool.{lt-ltb, ne_eqb, both_ways, cond-true, cond-false}
+use Rattle.std.proofs.lemmas.Bool.{lt-ltb, ne_eqb, both_ways, and_from, cond-true, cond-false}
+use Rattle.std.proofs.lemmas.List.Folds.{list_all-append}
 use Rattle.card.specs.declared.outcomes.Driven.{Driven}
 use Rattle.card.specs.declared.outcomes.Driven.TheVariants.{Follow, Latched, Merged, Lost, Quiet}
 use Rattle.card.specs.declared.outcomes.Reply.{Reply}
@@ -36,39 +38,26 @@ use Rattle.runs.proofs.Edges.{by_size}
 use Rattle.runs.proofs.Keeps.{refused_whole}
 use Rattle.script.specs.declared.faults.ScriptFault.{ScriptFault}
 use Rattle.script.specs.declared.faults.ScriptFault.TheVariants.{ShortOutput, LongLine, UnknownWord, WrongCount, BadField, LongScript, Rack}
-use Rattle.script.specs.Pieces.{onto, pieces, lines}
+use Rattle.script.specs.Pieces.{lines}
 use Rattle.script.specs.Parse.{parsed}
 use Rattle.script.specs.Printing.{result_fields, printed}
 use Rattle.script.specs.Running.{of_rack, gives_by, leaves_by, line_gives, line_leaves, printed_by, too_long, output}
 use Rattle.script.specs.Laws.{by_script, by_card, bad_mask, long_script, no_control, by_processor, Form, drive_form, drop_form, byte_form, ok_form, level_form, none_form, vector_form, outside_form, spurious_form, mask_form, drops_form, refused_form, StaysIfRefused, LineByLine, Promises}
-use Rattle.script.proofs.Lines.{told_step}
+use Rattle.script.proofs.Lines.{printed_step}
 
 -- A text with no byte 10.
 abbrev unbroken : List ℕ → Bool
-unbroken [] = true
-unbroken (b ∷ bs) = cond (eqb b 10) false (unbroken bs)
-
-abbrev all_unbroken : List (List ℕ) → Bool
-all_unbroken [] = true
-all_unbroken (f ∷ fs) = cond (unbroken f) (all_unbroken fs) false
+unbroken = list_all (λ b. not (eqb b 10))
 
 -- such a text is one line
 first_line : (o rest : List ℕ) → unbroken o ≡ true → lines (o ++ 10 ∷ rest) ≡ o ∷ lines rest
-unfolding pieces
+unfolding lines
 first_line [] rest h = refl
 first_line (b ∷ bs) rest h = go (eqb b 10) h (first_line bs rest)
   where
-    go : (v : Bool) → cond v false (unbroken bs) ≡ true → (unbroken bs ≡ true → lines (bs ++ 10 ∷ rest) ≡ bs ∷ lines rest) → cond v ([] ∷ lines (bs ++ 10 ∷ rest)) (onto b (lines (bs ++ 10 ∷ rest))) ≡ (b ∷ bs) ∷ lines rest
+    go : (v : Bool) → (not v && unbroken bs) ≡ true → (unbroken bs ≡ true → lines (bs ++ 10 ∷ rest) ≡ bs ∷ lines rest) → cond v ([] ∷ lines (bs ++ 10 ∷ rest)) (onto_first b (lines (bs ++ 10 ∷ rest))) ≡ (b ∷ bs) ∷ lines rest
     go true e f = absurd (both_ways false refl e)
-    go false e f = ap (onto b) (f e)
-
-unbroken_append : (a b : List ℕ) → unbroken a ≡ true → unbroken b ≡ true → unbroken (a ++ b) ≡ true
-unbroken_append [] b h g = g
-unbroken_append (x ∷ xs) b h g = go (eqb x 10) h (λ e. unbroken_append xs b e g)
-  where
-    go : (v : Bool) → cond v false (unbroken xs) ≡ true → (unbroken xs ≡ true → unbroken (xs ++ b) ≡ true) → cond v false (unbroken (xs ++ b)) ≡ true
-    go true e f = e
-    go false e f = f e
+    go false e f = ap (onto_first b) (f e)
 
 -- a number
 digit_unbroken : (n : ℕ) → eqb (digit_glyph false (n % 10)) 10 ≡ false
@@ -79,7 +68,7 @@ spelled_unbroken zero n acc h = h
 spelled_unbroken (suc k) n acc h = go (eqb (n / 10) 0) more (spelled_unbroken k (n / 10) (digit_glyph false (n % 10) ∷ acc) more)
   where
     more : unbroken (digit_glyph false (n % 10) ∷ acc) ≡ true
-    more = cond-false (eqb (digit_glyph false (n % 10)) 10) false (unbroken acc) (digit_unbroken n) ∙ h
+    more = and_from (not (eqb (digit_glyph false (n % 10)) 10)) (unbroken acc) (ap not (digit_unbroken n)) h
 
     go : (v : Bool) → unbroken (digit_glyph false (n % 10) ∷ acc) ≡ true → unbroken (digits_onto k 10 false (n / 10) (digit_glyph false (n % 10) ∷ acc)) ≡ true → unbroken (cond v (digit_glyph false (n % 10) ∷ acc) (digits_onto k 10 false (n / 10) (digit_glyph false (n % 10) ∷ acc))) ≡ true
     go true a b = a
@@ -106,33 +95,23 @@ layer_unbroken Script = refl
 layer_unbroken RackLayer = refl
 layer_unbroken CardLayer = refl
 
-and_more : (f : List ℕ) (fs : List (List ℕ)) → unbroken f ≡ true → all_unbroken fs ≡ true → all_unbroken (f ∷ fs) ≡ true
-and_more f fs h g = cond-true (unbroken f) (all_unbroken fs) false h ∙ g
+form_unbroken : (fs : List (List ℕ)) → Form fs → AllByRecursion (λ f. unbroken f ≡ true) fs
+form_unbroken fs (drive_form d) = (drive_unbroken d, tt)
+form_unbroken fs (drop_form n) = (refl, (number_unbroken n, tt))
+form_unbroken fs (byte_form n) = (refl, (number_unbroken n, tt))
+form_unbroken fs ok_form = (refl, tt)
+form_unbroken fs (level_form n) = (refl, (number_unbroken n, tt))
+form_unbroken fs none_form = (refl, tt)
+form_unbroken fs (vector_form z s v) = (refl, (side_unbroken z, (number_unbroken s, (number_unbroken v, tt))))
+form_unbroken fs (outside_form z s) = (refl, (side_unbroken z, (number_unbroken s, tt)))
+form_unbroken fs spurious_form = (refl, (refl, tt))
+form_unbroken fs (mask_form n) = (refl, (number_unbroken n, tt))
+form_unbroken fs (drops_form a b) = (refl, (number_unbroken a, (number_unbroken b, tt)))
+form_unbroken fs (refused_form n z k l) = (refl, (number_unbroken n, (layer_unbroken z, (number_unbroken k, tt))))
 
-numbers : (n : ℕ) → all_unbroken (decimal n ∷ []) ≡ true
-numbers n = and_more (decimal n) [] (number_unbroken n) refl
-
-form_unbroken : (fs : List (List ℕ)) → Form fs → all_unbroken fs ≡ true
-form_unbroken fs (drive_form d) = and_more (drive_word d) [] (drive_unbroken d) refl
-form_unbroken fs (drop_form n) = numbers n
-form_unbroken fs (byte_form n) = numbers n
-form_unbroken fs ok_form = refl
-form_unbroken fs (level_form n) = numbers n
-form_unbroken fs none_form = refl
-form_unbroken fs (vector_form z s v) = and_more (side_word z) (decimal s ∷ decimal v ∷ []) (side_unbroken z) (and_more (decimal s) (decimal v ∷ []) (number_unbroken s) (numbers v))
-form_unbroken fs (outside_form z s) = and_more (side_word z) (decimal s ∷ []) (side_unbroken z) (numbers s)
-form_unbroken fs spurious_form = refl
-form_unbroken fs (mask_form n) = numbers n
-form_unbroken fs (drops_form a b) = and_more (decimal a) (decimal b ∷ []) (number_unbroken a) (numbers b)
-form_unbroken fs (refused_form n z k l) = and_more (decimal n) (layer_word z ∷ decimal k ∷ []) (number_unbroken n) (and_more (layer_word z) (decimal k ∷ []) (layer_unbroken z) (numbers k))
-
-after_unbroken : (t : List ℕ) (fs : List (List ℕ)) → unbroken t ≡ true → all_unbroken fs ≡ true → unbroken (after t fs) ≡ true
+after_unbroken : (t : List ℕ) (fs : List (List ℕ)) → unbroken t ≡ true → AllByRecursion (λ f. unbroken f ≡ true) fs → unbroken (after t fs) ≡ true
 after_unbroken t [] h g = h
-after_unbroken t (f ∷ fs) h g = go (unbroken f) refl g (λ e k. after_unbroken (t ++ 9 ∷ f) fs (unbroken_append t (9 ∷ f) h e) k)
-  where
-    go : (v : Bool) → unbroken f ≡ v → cond v (all_unbroken fs) false ≡ true → (unbroken f ≡ true → all_unbroken fs ≡ true → unbroken (after (t ++ 9 ∷ f) fs) ≡ true) → unbroken (after (t ++ 9 ∷ f) fs) ≡ true
-    go true e k step = step e k
-    go false e k step = absurd (both_ways false refl k)
+after_unbroken t (f ∷ fs) h g = after_unbroken (t ++ 9 ∷ f) fs (list_all-append (λ b. not (eqb b 10)) t (9 ∷ f) ∙ and_from (unbroken t) (unbroken f) h g.0) g.1
 
 -- Every refusal is in the table.
 card_form : (e : CardFault) → Form (result_fields (Err (Rack (Card e))))
@@ -214,14 +193,14 @@ module _ {H C : Type 0} (p : Parts H C) (x : State H C) where
 
 -- One output line for each line.
 pub line_by_line : {H C : Type 0} (p : Parts H C) (x : State H C) (n : ℕ) (ts : List (List ℕ)) → LineByLine p x n ts (lines (printed_by p x n ts))
-unfolding pieces printed
+unfolding lines printed
 line_by_line p x n [] = tt
 line_by_line p x n (t ∷ ts) =
     let fs = result_fields (line_gives p x t) in
     let o = after (decimal n) fs in
     let form = line_form p x (parsed t) in
     let rest = printed_by p (line_leaves p x t) (n + 1) ts in
-    let cut : lines (printed_by p x n (t ∷ ts)) ≡ o ∷ lines rest = ap lines (told_step p x n ts (parsed t) ∙ append_assoc o (10 ∷ []) rest) ∙ first_line o rest (after_unbroken (decimal n) fs (number_unbroken n) (form_unbroken fs form)) in
+    let cut : lines (printed_by p x n (t ∷ ts)) ≡ o ∷ lines rest = ap lines (printed_step p x n t ts ∙ append_assoc o (10 ∷ []) rest) ∙ first_line o rest (after_unbroken (decimal n) fs (number_unbroken n) (form_unbroken fs form)) in
     subst (LineByLine p x n (t ∷ ts)) (sym cut) (record { text = refl; form = form; refused = line_stays p x (parsed t) }, line_by_line p (line_leaves p x t) (n + 1) ts)
 
 pub promises : {H C : Type 0} (p : Parts H C) (x : State H C) (s out : List ℕ) → out ≡ output p x s → length out ≤ 32 * length s + 128 → Promises p x s out

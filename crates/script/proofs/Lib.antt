@@ -1,7 +1,5 @@
-mod Pages
-mod Cuts
 mod Readings
-mod Shows
+mod Cuts
 mod Lines
 mod Laws
 mod Sizes

@@ -1,67 +1,53 @@
 -- How much a line prints, beside how long it is.
-use Rattle.std.proofs.Common.{◌≡◌, ℕ, suc, ◌*◌, ◌≤◌, Bool, true, false, cond, eqb, ltb, List, [], ◌∷◌, length, Some, None, Ok, Err, Option, Result, refl, ap, arith, lit≤, length-take}
+use Rattle.std.proofs.Common.{◌≡◌, ℕ, suc, ◌*◌, ◌≤◌, Bool, true, false, cond, eqb, leb, ltb, List, [], ◌∷◌, length, Some, None, Ok, Err, Option, Result, refl, ap, arith}
 use Rattle.std.specs.Str.{bytes_eq}
-use Rattle.std.proofs.lemmas.Bool.{both_ways, and_parts}
+use Rattle.std.proofs.lemmas.Slice.Eq.{bytes_eq-Decides}
+use Rattle.std.proofs.lemmas.Bool.{and_parts, leb-true}
+use Rattle.std.specs.List.{list_all, onto_first}
+use Rattle.std.specs.Option.{ok_or}
 use Rattle.rack.specs.declared.calls.Call.{Call}
 use Rattle.rack.specs.declared.calls.Outcome.{Outcome}
 use Rattle.rack.specs.declared.faults.RackFault.{RackFault}
 use Rattle.rack.specs.Machine.{Parts, State, rack_gives}
 use Rattle.script.specs.declared.words.Word.{Word}
-use Rattle.script.specs.declared.words.Word.TheVariants.{Line, Local, Put, Get, LocalPut, LocalGet, Mask, Take, Ack, Back, Reset}
 use Rattle.script.specs.declared.faults.ScriptFault.{ScriptFault}
-use Rattle.script.specs.declared.faults.ScriptFault.TheVariants.{LongLine}
-use Rattle.script.specs.Pieces.{fields, reach}
-use Rattle.script.specs.Format.{name, among, spelled}
-use Rattle.script.specs.Parse.{field_at, worded, parsed}
+use Rattle.script.specs.declared.faults.ScriptFault.TheVariants.{LongLine, UnknownWord}
+use Rattle.script.specs.Pieces.{fields}
+use Rattle.script.specs.Format.{name, among, words, spelled}
+use Rattle.script.specs.Parse.{field_at, word_of, worded, parsed}
 use Rattle.script.specs.Printing.{room}
 use Rattle.script.specs.Running.{of_rack, gives_by, line_gives}
-use Rattle.script.proofs.Cuts.{first_is}
 
--- the words that `spelled` knows
-abbrev words : List Word
-words = Line ∷ Local ∷ Put ∷ Get ∷ LocalPut ∷ LocalGet ∷ Mask ∷ Take ∷ Ack ∷ Back ∷ Reset ∷ []
-
--- a word has at least three letters
-word_long : (w : Word) → 3 ≤ length (name w)
-word_long Line = lit≤ tt
-word_long Local = lit≤ tt
-word_long Put = lit≤ tt
-word_long Get = lit≤ tt
-word_long LocalPut = lit≤ tt
-word_long LocalGet = lit≤ tt
-word_long Mask = lit≤ tt
-word_long Take = lit≤ tt
-word_long Ack = lit≤ tt
-word_long Back = lit≤ tt
-word_long Reset = lit≤ tt
-
-same_length : (a b : List ℕ) → bytes_eq a b ≡ true → length a ≡ length b
-same_length [] [] h = refl
-same_length [] (y ∷ ys) h = absurd (both_ways false refl h)
-same_length (x ∷ xs) [] h = absurd (both_ways false refl h)
-same_length (x ∷ xs) (y ∷ ys) h = ap suc (same_length xs ys (and_parts (eqb x y) (bytes_eq xs ys) h).1)
-
-among_long : (ws : List Word) (t : List ℕ) (w : Word) → among ws t ≡ Some w → 3 ≤ length t
-among_long [] t w e = let no_way : ◌≡◌ {A = ℕ} 0 1 = cc in absurd (omega arith)
-among_long (v ∷ ws) t w e = go (bytes_eq t (name v)) refl e (among_long ws t w)
+among_long : (ws : List Word) (t : List ℕ) (w : Word) → list_all (λ v. leb 3 (length (name v))) ws ≡ true → among ws t ≡ Some w → 3 ≤ length t
+among_long [] t w long e = let no_way : ◌≡◌ {A = ℕ} 0 1 = cc in absurd (omega arith)
+among_long (v ∷ ws) t w long e =
+    let both = and_parts (leb 3 (length (name v))) (list_all (λ u. leb 3 (length (name u))) ws) long in
+    go (bytes_eq t (name v)) refl e (leb-true 3 (length (name v)) both.0) (among_long ws t w both.1)
   where
-    go : (b : Bool) → bytes_eq t (name v) ≡ b → cond b (Some v) (among ws t) ≡ Some w → (among ws t ≡ Some w → 3 ≤ length t) → 3 ≤ length t
-    go true same e more = omega (arith, word_long v, same_length t (name v) same)
-    go false same e more = more e
+    go : (b : Bool) → bytes_eq t (name v) ≡ b → cond b (Some v) (among ws t) ≡ Some w → 3 ≤ length (name v) → (among ws t ≡ Some w → 3 ≤ length t) → 3 ≤ length t
+    go true same e long more = omega (arith, long, ap length ((bytes_eq-Decides t (name v)).0 same))
+    go false same e long more = more e
+
+-- the first field is no longer than the line
+first_short : (t : List ℕ) → length (field_at (fields t) 0) ≤ length t
+first_short [] = omega arith
+first_short (x ∷ xs) = go (eqb x 9) (fields xs) (first_short xs)
+  where
+    go : (b : Bool) (fs : List (List ℕ)) → length (field_at fs 0) ≤ length xs → length (field_at (cond b ([] ∷ fs) (onto_first x fs)) 0) ≤ suc (length xs)
+    go true fs h = omega arith
+    go false [] h = omega arith
+    go false (f ∷ fs) h = omega arith
 
 -- so a line that makes a call has at least three bytes
 parsed_long : (t : List ℕ) (c : Call) → parsed t ≡ Ok c → 3 ≤ length t
 unfolding parsed
 parsed_long t c e = go (ltb 80 (length t)) e
   where
-    within : 3 ≤ length (field_at (fields t) 0) → 3 ≤ length t
-    within h = omega (arith, ap length (first_is t), length-take (reach 9 t) t)
-
-    worded_long : (o : Option Word) → spelled (field_at (fields t) 0) ≡ o → worded o (fields t) ≡ Ok c → 3 ≤ length t
+    worded_long : (o : Option Word) → spelled (field_at (fields t) 0) ≡ o → worded (ok_or o UnknownWord) (fields t) ≡ Ok c → 3 ≤ length t
     worded_long None q e = let no_way : ◌≡◌ {A = ℕ} 0 1 = cc in absurd (omega arith)
-    worded_long (Some w) q e = within (among_long words (field_at (fields t) 0) w q)
+    worded_long (Some w) q e = omega (arith, first_short t, among_long words (field_at (fields t) 0) w refl q)
 
-    go : (b : Bool) → cond b (Err LongLine) (worded (spelled (field_at (fields t) 0)) (fields t)) ≡ Ok c → 3 ≤ length t
+    go : (b : Bool) → cond b (Err LongLine) (worded (word_of (field_at (fields t) 0)) (fields t)) ≡ Ok c → 3 ≤ length t
     go true e = let no_way : ◌≡◌ {A = ℕ} 0 1 = cc in absurd (omega arith)
     go false e = worded_long (spelled (field_at (fields t) 0)) refl e
 

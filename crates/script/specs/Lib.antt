@@ -1,5 +1,4 @@
 pub mod Pieces
-pub mod Pages
 pub mod Format
 pub mod Faults
 pub mod Parse

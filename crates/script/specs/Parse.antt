@@ -1,5 +1,6 @@
 -- What a line of a script says.
 use Rattle.std.specs.Prelude.{ℕ, suc, cond, List, [], length, Some, None, Ok, Err, Option, Result, ◌==◌, nat_lt, slice_index_or}
+use Rattle.std.specs.Option.{ok_or}
 use Rattle.script.specs.declared.words.Word.{Word}
 use Rattle.script.specs.declared.words.Word.TheVariants.{Line, Local, Put, Get, LocalPut, LocalGet, Mask, Take, Ack, Back, Reset}
 use Rattle.rack.specs.declared.calls.Side.TheVariants.{Local as LocalSide, Chain}
@@ -14,12 +15,8 @@ abbrev pub field_at : List (List ℕ) → ℕ → List ℕ
 field_at fs k = slice_index_or fs k []
 
 -- the one number behind the word, up to 255; the word is field 1, so the number is field 2
-abbrev pub single_by : Option ℕ → Result ℕ ScriptFault
-single_by None = Err (BadField 2)
-single_by (Some a) = Ok a
-
 abbrev pub single : List (List ℕ) → Result ℕ ScriptFault
-single fs = single_by (numeral 255 (field_at fs 1))
+single fs = ok_or (numeral 255 (field_at fs 1)) (BadField 2)
 
 -- the two numbers behind the word, of which the second goes up to top: the first bad field is the place
 abbrev pub both_by : Option ℕ → Option ℕ → Result (ℕ × ℕ) ScriptFault
@@ -48,11 +45,15 @@ call_of Ack fs = Ok Acknowledge
 call_of Back fs = with Return (single fs)
 call_of Reset fs = Ok ResetCall
 
+-- the word that a text spells
+abbrev pub word_of : List ℕ → Result Word ScriptFault
+word_of t = ok_or (spelled t) UnknownWord
+
 -- by rising number: unknown word, wrong count of fields, bad field
-abbrev pub worded : Option Word → List (List ℕ) → Result Call ScriptFault
-worded None fs = Err UnknownWord
-worded (Some w) fs = cond (length fs == suc (arity w)) (call_of w fs) (Err WrongCount)
+abbrev pub worded : Result Word ScriptFault → List (List ℕ) → Result Call ScriptFault
+worded (Err e) fs = Err e
+worded (Ok w) fs = cond (length fs == suc (arity w)) (call_of w fs) (Err WrongCount)
 
 -- the call that a line makes, or why it is refused: a line over 80 bytes before all else
 unfoldable pub parsed : List ℕ → Result Call ScriptFault
-parsed t = cond (nat_lt 80 (length t)) (Err LongLine) (worded (spelled (field_at (fields t) 0)) (fields t))
+parsed t = cond (nat_lt 80 (length t)) (Err LongLine) (worded (word_of (field_at (fields t) 0)) (fields t))

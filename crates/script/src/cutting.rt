@@ -1,60 +1,59 @@
-ghost use Rattle.std.specs.Prelude.{◌≡◌, ◌+◌, ◌<◌, ◌≤◌, ◌∷◌, length};
-ghost use Rattle.script.specs.Pieces.{lines, fields, reach};
+ghost use Rattle.std.specs.Prelude.{◌≡◌, ◌+◌, ◌<◌, ◌≤◌, length, IfSome};
+ghost use Rattle.std.specs.Iterator.{at_most, YieldsFirstRef};
+ghost use Rattle.script.specs.Pieces.{lines, fields};
 ghost use Rattle.script.specs.Parse.{field_at};
 
-/// The index of the first `mark`, or the length.
-fn find(text: &[u8], mark: u8) -> usize
-    ensures value { result ≡ reach mark text.now }
-    ensures bound { result ≤ length text.now }
-{
-    for (i, byte) in text.iter().enumerate() {
-        if *byte == mark {
-            return i;
-        }
-    }
-    text.len()
+/// The lines of a text, each without the byte that ends it.
+///
+/// It is an iterator of its own, since rattle proves no loop over `split_inclusive` in a function that is generic.
+#[derive(Drop)]
+pub(crate) struct Lines<'a> {
+    rest: &'a [u8],
 }
 
-/// The first line, and what follows it.
-pub(crate) fn next_line(text: &[u8]) -> (&[u8], &[u8])
-    requires { 0 < length text.now }
-    ensures lines { lines text.now ≡ result.0.now ∷ lines result.1.now }
-    ensures shorter { length result.1.now < length text.now }
-    ensures whole { length result.0.now + length result.1.now ≤ length text.now }
-{
-    let end = find(text, b'\n');
-    let next = if end < text.len() { end + 1 } else { end };
-    (&text[0..end], &text[next..])
+impl<'a> Lines<'a> {
+    pub(crate) fn of(text: &'a [u8]) -> Lines<'a>
+        ensures { result.rest.now ≡ text.now }
+    {
+        Lines { rest: text }
+    }
+}
+
+impl<'a> Iterator for Lines<'a> {
+    type Item = &'a [u8];
+
+    ghost next_gives = { λ s r t. YieldsFirstRef (λ z. lines z.rest.now) s r t
+        × IfSome r (λ x. (length t.rest.now < length s.rest.now) × (length x.now + length t.rest.now ≤ length s.rest.now)) };
+
+    ghost remaining = { λ s. at_most (length s.rest.now) };
+
+    fn next(&mut self) -> Option<&'a [u8]> {
+        if self.rest.is_empty() {
+            return None;
+        }
+        let end = self
+            .rest
+            .iter()
+            .position(|byte| *byte == b'\n')
+            .unwrap_or(self.rest.len());
+        let line = &self.rest[..end];
+        self.rest = self.rest.get(end + 1..).unwrap_or_default();
+        Some(line)
+    }
 }
 
 /// How many fields there are.
 pub(crate) fn field_count(text: &[u8]) -> usize
     ensures { result ≡ length (fields text.now) }
 {
-    let mut count = 1;
-    for byte in text {
-        if *byte == b'\t' {
-            count += 1;
-        }
-    }
-    count
+    text.split(|byte| *byte == b'\t').count()
 }
 
 /// A field by its place from 0, or nothing where there are fewer.
 pub(crate) fn field(text: &[u8], place: usize) -> &[u8]
     ensures { result.now ≡ field_at (fields text.now) place }
 {
-    let mut rest = text;
-    let mut left = place;
-    loop {
-        let end = find(rest, b'\t');
-        if left == 0 {
-            return &rest[0..end];
-        }
-        if end == rest.len() {
-            return &rest[end..];
-        }
-        rest = &rest[end + 1..];
-        left -= 1;
-    }
+    text.split(|byte| *byte == b'\t')
+        .nth(place)
+        .unwrap_or_default()
 }

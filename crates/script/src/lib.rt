@@ -3,7 +3,6 @@
 
 mod cutting;
 mod faults;
-mod page;
 mod parsing;
 mod printing;
 mod running;

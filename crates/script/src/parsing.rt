@@ -1,6 +1,6 @@
 ghost use Rattle.std.specs.Prelude.{◌≡◌, ◌==◌};
 ghost use Rattle.script.specs.Pieces.{fields};
-ghost use Rattle.script.specs.Format.{numeral};
+ghost use Rattle.script.specs.Format.{all_digits, numeral};
 ghost use Rattle.script.specs.Parse.{single, both, with, call_of, parsed};
 ghost use Rattle.rack.specs.declared.calls.Call.TheVariants.{Drive, Read, Write};
 
@@ -8,53 +8,40 @@ use crate::cutting::{field, field_count};
 use crate::faults::ScriptFault;
 use crate::words::Word;
 use rack::{Call, Side};
+use std::str;
+
+// The most bytes that a line may have.
+const LONGEST_LINE: usize = 80;
+
+fn all_digits(text: &[u8]) -> bool
+    ensures { result ≡ all_digits text.now }
+{
+    text.iter().all(u8::is_ascii_digit)
+}
 
 // One to three digits, of a number up to `top`.
 fn number(digits: &[u8], top: u8) -> Option<u8>
     ensures { result ≡ numeral top digits.now }
 {
-    if digits.len() == 0 {
+    if digits.len() > 3 || !all_digits(digits) {
         return None;
     }
-    if digits.len() > 3 {
-        return None;
-    }
-    let mut value: u32 = 0;
-    for digit in digits {
-        if *digit < b'0' {
-            return None;
-        }
-        if *digit > b'9' {
-            return None;
-        }
-        value = value * 10 + (*digit - b'0') as u32;
-    }
-    if value <= top as u32 {
-        Some(value as u8)
-    } else {
-        None
-    }
+    let value = str::from_utf8(digits).ok()?.parse::<u8>().ok()?;
+    (value <= top).then_some(value)
 }
 
 fn one_number(text: &[u8]) -> Result<u8, ScriptFault>
     ensures { result ≡ single (fields text.now) }
 {
-    match number(field(text, 1), 255) {
-        Some(value) => Ok(value),
-        None => Err(ScriptFault::BadField(2)),
-    }
+    number(field(text, 1), u8::MAX).ok_or(ScriptFault::BadField(2))
 }
 
 fn two_numbers(text: &[u8], top: u8) -> Result<(u8, u8), ScriptFault>
     ensures { result ≡ both top (fields text.now) }
 {
-    match number(field(text, 1), 255) {
-        Some(first) => match number(field(text, 2), top) {
-            Some(second) => Ok((first, second)),
-            None => Err(ScriptFault::BadField(3)),
-        },
-        None => Err(ScriptFault::BadField(2)),
-    }
+    let first = one_number(text)?;
+    let second = number(field(text, 2), top).ok_or(ScriptFault::BadField(3))?;
+    Ok((first, second))
 }
 
 fn call_of(word: Word, text: &[u8]) -> Result<Call, ScriptFault>
@@ -67,16 +54,14 @@ fn call_of(word: Word, text: &[u8]) -> Result<Call, ScriptFault>
         Word::Get => read(Side::Chain, text),
         Word::LocalPut => write(Side::Local, text),
         Word::LocalGet => read(Side::Local, text),
-        Word::Mask => {
-            let mask = one_number(text)?;
-            Ok(Call::Mask { mask })
-        }
+        Word::Mask => Ok(Call::Mask {
+            mask: one_number(text)?,
+        }),
         Word::Take => Ok(Call::Take),
         Word::Ack => Ok(Call::Acknowledge),
-        Word::Back => {
-            let depth = one_number(text)?;
-            Ok(Call::Return { depth })
-        }
+        Word::Back => Ok(Call::Return {
+            depth: one_number(text)?,
+        }),
         Word::Reset => Ok(Call::Reset),
     }
 }
@@ -106,24 +91,23 @@ fn write(side: Side, text: &[u8]) -> Result<Call, ScriptFault>
 fn read(side: Side, text: &[u8]) -> Result<Call, ScriptFault>
     ensures { result ≡ with (Read side) (single (fields text.now)) }
 {
-    let register = one_number(text)?;
-    Ok(Call::Read { side, register })
+    Ok(Call::Read {
+        side,
+        register: one_number(text)?,
+    })
 }
 
 /// The call that a line makes. The line's byte 10 is not part of it.
+#[tactic(auto, unfolding(crate::specs::Parse::parsed))]
 pub fn parse(text: &[u8]) -> Result<Call, ScriptFault>
     ensures { result ≡ parsed text.now }
 {
-    if text.len() > 80 {
+    if text.len() > LONGEST_LINE {
         return Err(ScriptFault::LongLine);
     }
-    match Word::spelled(field(text, 0)) {
-        Some(word) => {
-            if field_count(text) != word.arity() + 1 {
-                return Err(ScriptFault::WrongCount);
-            }
-            call_of(word, text)
-        }
-        None => Err(ScriptFault::UnknownWord),
+    let word = Word::try_from(field(text, 0))?;
+    if field_count(text) != word.arity() + 1 {
+        return Err(ScriptFault::WrongCount);
     }
+    call_of(word, text)
 }

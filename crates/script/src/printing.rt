@@ -1,101 +1,130 @@
-ghost use Rattle.std.specs.Prelude.{◌≡◌, ◌+◌, ◌<◌, ◌≤◌, length};
-ghost use Rattle.script.specs.Pages.{written, size};
+ghost use Rattle.std.specs.Prelude.{◌≡◌, ◌+◌, ◌<◌, ◌≤◌, ◌∷◌, ◌++◌, length};
+ghost use Rattle.arrayvec.specs.ArrayString.{array_string_len};
 ghost use Rattle.card.specs.Words.{after, refusal_fields};
 ghost use Rattle.rack.specs.Words.{reached_fields, outcome_fields};
 ghost use Rattle.script.specs.Printing.{printed, room};
 
 use crate::faults::ScriptFault;
-use crate::page::Page;
+use arrayvec::ArrayString;
 use card::{Refusal, Reply};
+use itoa::{Buffer, Integer};
 use rack::{Outcome, Reached};
 
+/// The most bytes that a printed line takes.
+pub(crate) const LINE_ROOM: usize = 128;
+
+/// A printed line.
+pub(crate) type Page = ArrayString<LINE_ROOM>;
+
+// A field: a tab and the text.
+//
+// `write!` and `Display` would print the same, but their contracts say only what a print writes that succeeds, and not that it does; the
+// print of a line can't fail.
+fn push_word(page: &mut Page, word: &str)
+    requires { array_string_len page.old + 1 + length word.now ≤ 128 }
+    ensures text { page.new.bytes ≡ page.old.bytes ++ 9 ∷ word.now }
+    ensures len { array_string_len page.new ≡ array_string_len page.old + 1 + length word.now }
+{
+    page.push_str("\t");
+    page.push_str(word);
+}
+
+// A field that is a number.
+fn push_number<I: Integer>(page: &mut Page, number: I)
+    requires { array_string_len page.old + 1 + I.MAX_STR_LEN ≤ 128 }
+    ensures text { page.new.bytes ≡ page.old.bytes ++ 9 ∷ I.text number }
+    ensures bound { array_string_len page.new ≤ array_string_len page.old + 1 + I.MAX_STR_LEN }
+{
+    push_word(page, Buffer::new().format(number));
+}
+
 fn show_reached(page: &mut Page, reached: Reached)
-    requires { size page.old ≤ 20 }
-    ensures text { written page.new ≡ after (written page.old) (reached_fields reached) }
-    ensures bound { size page.new ≤ 127 }
-    ensures grows { size page.new ≤ size page.old + 60 }
+    requires { array_string_len page.old ≤ 20 }
+    ensures text { page.new.bytes ≡ after page.old.bytes (reached_fields reached) }
+    ensures bound { array_string_len page.new ≤ 127 }
+    ensures grows { array_string_len page.new ≤ array_string_len page.old + 60 }
 {
     match reached {
-        Reached::At(side, answer) => {
-            match answer.reply {
-                Reply::Byte(vector) => {
-                    page.field(b"vector");
-                    page.field(side.word().as_bytes());
-                    page.byte(answer.source);
-                    page.byte(vector);
-                }
-                Reply::Outside => {
-                    page.field(b"outside");
-                    page.field(side.word().as_bytes());
-                    page.byte(answer.source);
-                }
+        Reached::At(side, answer) => match answer.reply {
+            Reply::Byte(vector) => {
+                push_word(page, "vector");
+                push_word(page, side.word());
+                push_number(page, answer.source);
+                push_number(page, vector);
             }
-        }
+            Reply::Outside => {
+                push_word(page, "outside");
+                push_word(page, side.word());
+                push_number(page, answer.source);
+            }
+        },
         Reached::Spurious(vector) => {
-            page.field(b"spurious");
-            page.byte(vector);
+            push_word(page, "spurious");
+            push_number(page, vector);
         }
     }
 }
 
 fn show_outcome(page: &mut Page, outcome: Outcome)
-    requires { size page.old ≤ 20 }
-    ensures text { written page.new ≡ after (written page.old) (outcome_fields outcome) }
-    ensures bound { size page.new ≤ 127 }
-    ensures grows { size page.new ≤ size page.old + 60 }
+    requires { array_string_len page.old ≤ 20 }
+    ensures text { page.new.bytes ≡ after page.old.bytes (outcome_fields outcome) }
+    ensures bound { array_string_len page.new ≤ 127 }
+    ensures grows { array_string_len page.new ≤ array_string_len page.old + 60 }
 {
     match outcome {
-        Outcome::Drove(driven) => page.field(driven.word().as_bytes()),
+        Outcome::Drove(driven) => push_word(page, driven.word()),
         Outcome::Showed(value) => {
-            page.field(b"byte");
-            page.byte(value);
+            push_word(page, "byte");
+            push_number(page, value);
         }
         Outcome::Withdrew(withdrawn) => {
-            page.field(b"drop");
-            page.number(withdrawn.first_word());
+            push_word(page, "drop");
+            push_number(page, withdrawn.first_word());
         }
-        Outcome::Masked => page.field(b"ok"),
-        Outcome::Took(None) => page.field(b"none"),
+        Outcome::Masked => push_word(page, "ok"),
+        Outcome::Took(None) => push_word(page, "none"),
         Outcome::Took(Some(level)) => {
-            page.field(b"level");
-            page.byte(level);
+            push_word(page, "level");
+            push_number(page, level);
         }
         Outcome::Answered(reached) => show_reached(page, reached),
         Outcome::Returned(mask) => {
-            page.field(b"mask");
-            page.byte(mask);
+            push_word(page, "mask");
+            push_number(page, mask);
         }
         Outcome::Cleared(chain, local) => {
-            page.field(b"drop");
-            page.number(chain.first_word());
-            page.number(local.first_word());
+            push_word(page, "drop");
+            push_number(page, chain.first_word());
+            push_number(page, local.first_word());
         }
     }
 }
 
 fn show_refusal(page: &mut Page, refusal: Refusal)
-    requires { size page.old ≤ 20 }
-    ensures text { written page.new ≡ after (written page.old) (refusal_fields refusal) }
-    ensures bound { size page.new ≤ 127 }
-    ensures grows { size page.new ≤ size page.old + 24 }
+    requires { array_string_len page.old ≤ 20 }
+    ensures text { page.new.bytes ≡ after page.old.bytes (refusal_fields refusal) }
+    ensures bound { array_string_len page.new ≤ 127 }
+    ensures grows { array_string_len page.new ≤ array_string_len page.old + 24 }
 {
-    page.field(b"refused");
-    page.byte(refusal.number);
-    page.field(refusal.layer.word().as_bytes());
-    page.byte(refusal.place);
+    push_word(page, "refused");
+    push_number(page, refusal.number);
+    push_word(page, refusal.layer.word());
+    push_number(page, refusal.place);
 }
 
 // The printed line of a result.
+#[tactic(auto, unfolding(crate::specs::Printing::printed))]
 pub(crate) fn show(number: u64, given: Result<Outcome, ScriptFault>) -> Page
-    ensures text { written result ≡ printed number given }
+    ensures text { result.bytes ≡ printed number given }
     ensures bound { length (printed number given) ≤ 128 }
     ensures short { number < 100000 → length (printed number given) ≤ room given }
 {
-    let mut page = Page::numbered(number);
+    let mut page = Page::new();
+    page.push_str(Buffer::new().format(number));
     match given {
         Ok(outcome) => show_outcome(&mut page, outcome),
         Err(fault) => show_refusal(&mut page, Refusal::from(fault)),
     }
-    page.push(b'\n');
+    page.push_str("\n");
     page
 }

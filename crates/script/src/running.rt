@@ -4,13 +4,16 @@ ghost use Rattle.script.specs.Pieces.{lines};
 ghost use Rattle.script.specs.Running.{line_gives, line_leaves, line_result, line_output, line_exit, printed_by, ScriptRan};
 ghost use Rattle.script.specs.Laws.{StaysIfRefused, Promises};
 
-use crate::cutting::next_line;
+use crate::cutting::Lines;
 use crate::faults::ScriptFault;
 use crate::parsing::parse;
-use crate::printing::show;
+use crate::printing::{LINE_ROOM, show};
 use card::{Card, Handler};
 use rack::{Outcome, Rack};
 use std::alloc::{AllocError, Global};
+
+// The most bytes that a script may have.
+const LONGEST_SCRIPT: usize = 65_536;
 
 /// Makes the call of a line on a rack. A line that is refused, as text or by the rack, changes nothing.
 pub fn obey<H: Handler, C: Card>(rack: &mut Rack<H, C>, text: &[u8]) -> Result<Outcome, ScriptFault>
@@ -33,13 +36,13 @@ pub fn line<H: Handler, C: Card>(
     ensures prints { out.new ≡ line_output (parts H.Handler C.Card) rack.old number text.now out.old }
     ensures after { rack.new ≡ line_exit (parts H.Handler C.Card) rack.old text.now out.old }
 {
-    if out.len() < 128 {
+    if out.len() < LINE_ROOM {
         return Err(ScriptFault::ShortOutput);
     }
     let page = show(number, obey(rack, text));
-    let len = page.len();
-    out[0..len].copy_from_slice(page.as_slice());
-    Ok(len)
+    let printed = page.as_bytes();
+    out[..printed.len()].copy_from_slice(printed);
+    Ok(printed.len())
 }
 
 fn run_lines<H: Handler, C: Card>(
@@ -51,14 +54,9 @@ fn run_lines<H: Handler, C: Card>(
     ensures prints { OnOk result (out.new.items ≡ out.old.items ++ printed_by (parts H.Handler C.Card) rack.old 1 (lines script.now)) }
     ensures bound { OnOk result (length out.new.items ≤ length out.old.items + 32 * length script.now) }
 {
-    let mut rest = script;
-    let mut number: u64 = 1;
-    while rest.len() > 0 {
-        let (text, after) = next_line(rest);
+    for (number, text) in (1u64..).zip(Lines::of(script)) {
         let page = show(number, obey(rack, text));
-        out.extend_from_slice(page.as_slice())?;
-        rest = after;
-        number += 1;
+        out.extend_from_slice(page.as_bytes())?;
     }
     Ok(())
 }
@@ -77,9 +75,9 @@ pub fn run_script<H: Handler + Drop, C: Card + Drop>(
 {
     let mut rack = Rack::new(number, handler, chain);
     let mut out = Vec::new(heap);
-    if script.len() > 65536 {
+    if script.len() > LONGEST_SCRIPT {
         let page = show(0, Err(ScriptFault::LongScript));
-        out.extend_from_slice(page.as_slice())?;
+        out.extend_from_slice(page.as_bytes())?;
         return Ok(out);
     }
     run_lines(&mut rack, script, &mut out)?;

@@ -1,6 +1,8 @@
 ghost use Rattle.std.specs.Prelude.{◌≡◌, ◌≤◌};
-ghost use Rattle.std.specs.Str.{bytes_eq};
-ghost use Rattle.script.specs.Format.{spelled, arity};
+ghost use Rattle.script.specs.Parse.{word_of};
+ghost use Rattle.script.specs.Format.{arity};
+
+use crate::faults::ScriptFault;
 
 /// The first field of a line.
 #[derive(Clone, Copy)]
@@ -18,44 +20,31 @@ pub(crate) enum Word {
     Reset,
 }
 
-fn is_text(text: &[u8], word: &[u8]) -> bool
-    ensures { result ≡ bytes_eq text.now word.now }
-{
-    text == word
+// The word that a text spells.
+impl TryFrom<&[u8]> for Word {
+    type Error = ScriptFault;
+
+    ghost try_from_gives = { λ text r. r ≡ word_of text.now };
+
+    fn try_from(text: &[u8]) -> Result<Word, ScriptFault> {
+        match text {
+            b"line" => Ok(Word::Line),
+            b"local" => Ok(Word::Local),
+            b"put" => Ok(Word::Put),
+            b"get" => Ok(Word::Get),
+            b"lput" => Ok(Word::LocalPut),
+            b"lget" => Ok(Word::LocalGet),
+            b"mask" => Ok(Word::Mask),
+            b"take" => Ok(Word::Take),
+            b"ack" => Ok(Word::Ack),
+            b"back" => Ok(Word::Back),
+            b"reset" => Ok(Word::Reset),
+            _ => Err(ScriptFault::UnknownWord),
+        }
+    }
 }
 
 impl Word {
-    // The word that a text spells.
-    pub(crate) fn spelled(text: &[u8]) -> Option<Word>
-        ensures { result ≡ spelled text.now }
-    {
-        if is_text(text, b"line") {
-            Some(Word::Line)
-        } else if is_text(text, b"local") {
-            Some(Word::Local)
-        } else if is_text(text, b"put") {
-            Some(Word::Put)
-        } else if is_text(text, b"get") {
-            Some(Word::Get)
-        } else if is_text(text, b"lput") {
-            Some(Word::LocalPut)
-        } else if is_text(text, b"lget") {
-            Some(Word::LocalGet)
-        } else if is_text(text, b"mask") {
-            Some(Word::Mask)
-        } else if is_text(text, b"take") {
-            Some(Word::Take)
-        } else if is_text(text, b"ack") {
-            Some(Word::Ack)
-        } else if is_text(text, b"back") {
-            Some(Word::Back)
-        } else if is_text(text, b"reset") {
-            Some(Word::Reset)
-        } else {
-            None
-        }
-    }
-
     // How many fields follow it.
     pub(crate) fn arity(self) -> usize
         ensures value { result ≡ arity self }

@@ -1,34 +1,32 @@
-use Rattle.std.proofs.Common.{◌≡◌, ◌+◌, ◌-◌, ◌≤◌, ◌++◌, length, vec_items, ap, ◌∙◌, subst, arith, length-append}
+use Rattle.std.proofs.Common.{◌≡◌, ◌+◌, ◌-◌, ◌≤◌, ◌<◌, ◌∷◌, ◌++◌, length, vec_items, sym, ap, ◌∙◌, subst, append_assoc, arith, rules}
 use Rattle.rack.proofs.Bounds.{parts_of}
 use Rattle.script.specs.Pieces.{lines}
 use Rattle.script.specs.Printing.{printed, room}
-use Rattle.script.specs.Running.{line_gives, line_text}
-use Rattle.script.proofs.Lines.{printed_more, printed_all}
+use Rattle.script.specs.Running.{line_gives, line_text, line_leaves, printed_by}
+use Rattle.script.proofs.Lines.{printed_step}
 use Rattle.script.proofs.Sizes.{line_room}
 use Rattle.script.proofs.running.run_lines.Goals as goal
 
-pub loop-rest-preserved : goal.loop-rest-preserved
-loop-rest-preserved g c =
+pub loop-number-preserved : goal.loop-number-preserved
+loop-number-preserved g c =
     let p = parts_of g.H.Card g.H.Handler g.C.Card in
-    let x = c.loop-rest.rack in
-    let n = c.loop-rest.number in
-    let t = c.next_line.result.0.now in
-    let rest = length c.loop-rest.rest.now in
-    let left = length c.next_line.result.1.now in
-    let text : c.as_slice.result.now ≡ line_text p x n t = c.as_slice.ensures.value ∙ c.show-page.ensures.text ∙ ap (printed n) c.obey.ensures.result in
-    let added : length (vec_items c.extend_from_slice.new.self) ≡ length (vec_items c.loop-rest.out) + length (line_text p x n t) =
-    ap length (c.in_ok-extend_from_slice.ensures.items ∙ ap (λ s. vec_items c.loop-rest.out ++ s) text) ∙ length-append (vec_items c.loop-rest.out) (line_text p x n t) in
-    let few : length (line_text p x n t) ≤ room (line_gives p x t) =
-    subst (λ r. length (printed n r) ≤ room r) c.obey.ensures.result (c.show-page.ensures.short (omega (arith, c.loop-rest.invariant.1))) in
-    let fits = line_room p x t (rest - left) (omega (arith, c.next_line.ensures.shorter)) (omega (arith, c.next_line.ensures.whole)) in (
-      printed_more p x c.obey.new.rack n t (lines c.loop-rest.rest.now) (lines c.next_line.result.1.now) (vec_items c.loop-rest.out) c.as_slice.result.now (vec_items c.extend_from_slice.new.self) _
-          c.next_line.ensures.lines c.obey.ensures.after c.loop-rest.invariant.0 text c.in_ok-extend_from_slice.ensures.items,
-      omega (arith, c.loop-rest.invariant.1, c.next_line.ensures.shorter),
-      omega (arith, c.loop-rest.invariant.2, c.next_line.ensures.shorter, added, few, fits),
+    let x = c.loop-number.rack in
+    let n = c.in-Some.number in
+    let t = c.in-Some.text.now in
+    let before = c.loop-number.number-iterator.b.rest.now in
+    let after = c.next.new.self.b.rest.now in
+    let numbered : n ≡ c.loop-number.number-iterator.a.start = search rules in
+    let counts : c.next.new.self.a.start ≡ n + 1 = search rules in
+    let cut : lines before ≡ t ∷ lines after = search rules in
+    let shorter : length after < length before = search rules in
+    let whole : length t + length after ≤ length before = search rules in
+    let text : c.as_bytes.result.now ≡ line_text p x n t = search rules in
+    let added : length (vec_items c.extend_from_slice.new.self) ≡ length (vec_items c.loop-number.out) + length (line_text p x n t) = search rules in
+    let few : length (line_text p x n t) ≤ room (line_gives p x t) = subst (λ r. length (printed n r) ≤ room r) c.obey.ensures.result (c.show-page.ensures.short (omega (arith, c.loop-number.invariant.1, numbered))) in
+    let fits = line_room p x t (length before - length after) (omega (arith, shorter)) (omega (arith, whole)) in
+    let step : printed_by p x n (lines before) ≡ line_text p x n t ++ printed_by p (line_leaves p x t) (n + 1) (lines after) = ap (printed_by p x n) cut ∙ printed_step p x n t (lines after) in
+    let joined = append_assoc (vec_items c.loop-number.out) (line_text p x n t) (printed_by p (line_leaves p x t) (n + 1) (lines after)) in (
+      rw (counts, c.in_ok-extend_from_slice.ensures.items, text, c.obey.ensures.after, joined) (ap (λ s. vec_items c.loop-number.out ++ s) (sym step) ∙ rw numbered c.loop-number.invariant.0),
+      omega (arith, c.loop-number.invariant.1, numbered, counts, shorter),
+      omega (arith, c.loop-number.invariant.2, shorter, added, few, fits),
     )
-
-pub returns : goal.returns
-returns g c = record {
-  prints = printed_all (parts_of g.H.Card g.H.Handler g.C.Card) c.loop-rest.rack c.loop-rest.number c.loop-rest.rest.now (vec_items c.loop-rest.out) _ c.loop-rest-test.false c.loop-rest.invariant.0;
-  bound = omega (arith, c.loop-rest.invariant.2);
-}
