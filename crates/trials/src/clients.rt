@@ -1,5 +1,4 @@
 // A client of a rack that serves one interrupt by token. Nothing here can lose a token: each is handed in, or handed on with the fault.
-ghost use Rattle.std.specs.Prelude.{◌≡◌, false};
 ghost use Rattle.trials.specs.Clients.{Handed};
 
 use card::{Card, Handler};
@@ -17,35 +16,10 @@ pub enum Stopped {
 pub fn serve_once<H: Handler, C: Card>(rack: &mut Rack<H, C>) -> Result<Option<u8>, Stopped>
     ensures { Handed result }
 {
-    match rack.take() {
-        Ok(Some(token)) => acknowledge(rack, token),
-        Ok(None) => Ok(None),
-        Err(fault) => Err(Stopped::Before(fault)),
-    }
-}
-
-fn acknowledge<H: Handler, C: Card>(
-    rack: &mut Rack<H, C>,
-    token: TakenToken,
-) -> Result<Option<u8>, Stopped>
-    requires { token.spent ≡ false }
-    ensures { Handed result }
-{
-    match rack.acknowledge(token) {
-        Ok((_, service)) => close(rack, service),
-        Err(refused) => Err(Stopped::Taken(refused)),
-    }
-}
-
-fn close<H: Handler, C: Card>(
-    rack: &mut Rack<H, C>,
-    service: ServiceToken,
-) -> Result<Option<u8>, Stopped>
-    requires { service.spent ≡ false }
-    ensures { Handed result }
-{
-    match rack.return_from(service) {
-        Ok(mask) => Ok(Some(mask)),
-        Err(refused) => Err(Stopped::Serving(refused)),
-    }
+    let Some(token) = rack.take().map_err(Stopped::Before)? else {
+        return Ok(None);
+    };
+    let (_, service) = rack.acknowledge(token).map_err(Stopped::Taken)?;
+    let mask = rack.return_from(service).map_err(Stopped::Serving)?;
+    Ok(Some(mask))
 }

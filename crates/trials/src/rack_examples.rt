@@ -1,8 +1,7 @@
-use card::{Answer, Card, CardFault, Driven, Reply};
+use card::{Answer, Card, CardFault, Driven, Refusal, Reply};
 use joined::Joined;
 use mc68153::Mc68153;
 use plain::PlainHandler;
-use processor::ProcessorFault;
 use rack::{Call, Outcome, Rack, RackFault, Reached, Side};
 
 // A rack of the plain handler above two MC68153, of which the rear's input 1 asks at level 4 with vector 70.
@@ -18,41 +17,45 @@ fn asking() -> Rack<PlainHandler, Joined<Mc68153, Mc68153>> {
     rack
 }
 
-// What a step of a rack gave, as a number: the fault's number, or what the outcome tells.
-fn told(given: Result<Outcome, RackFault>) -> u16 {
-    match given {
-        Err(fault) => 1000 + fault.refusal().number as u16,
-        Ok(Outcome::Took(None)) => 0,
-        Ok(Outcome::Took(Some(level))) => level as u16,
-        Ok(Outcome::Answered(Reached::Spurious(vector))) => vector as u16,
-        Ok(Outcome::Answered(Reached::At(_, answer))) => match answer.reply {
-            Reply::Byte(vector) => answer.source as u16 * 256 + vector as u16,
-            Reply::Outside => 999,
-        },
-        Ok(Outcome::Returned(mask)) => 500 + mask as u16,
-        Ok(_) => 998,
-    }
+// How a call is refused: the fault's number, if it is.
+fn refused(given: Result<Outcome, RackFault>) -> Option<u8> {
+    given.err().map(|fault| Refusal::from(fault).number)
 }
+
+// The rear's input 1 answers.
+const ANSWERED: Outcome = Outcome::Answered(Reached::At(
+    Side::Chain,
+    Answer {
+        source: 5,
+        reply: Reply::Byte(70),
+    },
+));
 
 #[test]
 fn the_presented_level_is_compared_with_the_mask(rt: HostRuntime) {
     let mut rack = asking();
     assert_eq!(rt; rack.presented_level(), 4);
     let _ = rack.set_mask(4);
-    assert_eq!(rt; told(rack.step(Call::Take)), 0);
+    assert_eq!(rt; rack.step(Call::Take), Ok(Outcome::Took(None)));
     let _ = rack.set_mask(3);
-    assert_eq!(rt; told(rack.step(Call::Take)), 4);
-    assert_eq!(rt; told(rack.step(Call::Acknowledge)), 5 * 256 + 70);
-    assert_eq!(rt; told(rack.step(Call::Return { depth: 1 })), 503);
+    assert_eq!(rt; rack.step(Call::Take), Ok(Outcome::Took(Some(4))));
+    assert_eq!(rt; rack.step(Call::Acknowledge), Ok(ANSWERED));
+    assert_eq!(rt;
+        rack.step(Call::Return { depth: 1 }),
+        Ok(Outcome::Returned(3))
+    );
 }
 
 #[test]
 fn a_negated_wire_leaves_the_spurious_vector(rt: HostRuntime) {
     let mut rack = asking();
     let _ = rack.set_mask(0);
-    assert_eq!(rt; told(rack.step(Call::Take)), 4);
+    assert_eq!(rt; rack.step(Call::Take), Ok(Outcome::Took(Some(4))));
     let _ = rack.drive(Side::Chain, 5, false);
-    assert_eq!(rt; told(rack.step(Call::Acknowledge)), 24);
+    assert_eq!(rt;
+        rack.step(Call::Acknowledge),
+        Ok(Outcome::Answered(Reached::Spurious(24)))
+    );
 }
 
 #[test]
@@ -73,14 +76,14 @@ fn faults_of_the_rear_are_renamed(rt: HostRuntime) {
 fn a_taken_level_allows_only_an_acknowledge(rt: HostRuntime) {
     let mut rack = asking();
     let _ = rack.set_mask(0);
-    assert_eq!(rt; told(rack.step(Call::Take)), 4);
-    assert_eq!(rt; told(rack.step(Call::Take)), 1021);
-    assert_eq!(rt; told(rack.step(Call::Mask { mask: 9 })), 1018);
-    assert_eq!(rt; told(rack.step(Call::Mask { mask: 0 })), 1021);
-    assert_eq!(rt; told(rack.step(Call::Return { depth: 1 })), 1021);
-    assert_eq!(rt; told(rack.step(Call::Reset)), 1021);
-    assert_eq!(rt; told(rack.step(Call::Acknowledge)), 5 * 256 + 70);
-    assert_eq!(rt; told(rack.step(Call::Acknowledge)), 1022);
-    assert_eq!(rt; told(rack.step(Call::Return { depth: 2 })), 1023);
-    assert_eq!(rt; told(rack.step(Call::Reset)), 1025);
+    assert_eq!(rt; rack.step(Call::Take), Ok(Outcome::Took(Some(4))));
+    assert_eq!(rt; refused(rack.step(Call::Take)), Some(21));
+    assert_eq!(rt; refused(rack.step(Call::Mask { mask: 9 })), Some(18));
+    assert_eq!(rt; refused(rack.step(Call::Mask { mask: 0 })), Some(21));
+    assert_eq!(rt; refused(rack.step(Call::Return { depth: 1 })), Some(21));
+    assert_eq!(rt; refused(rack.step(Call::Reset)), Some(21));
+    assert_eq!(rt; rack.step(Call::Acknowledge), Ok(ANSWERED));
+    assert_eq!(rt; refused(rack.step(Call::Acknowledge)), Some(22));
+    assert_eq!(rt; refused(rack.step(Call::Return { depth: 2 })), Some(23));
+    assert_eq!(rt; refused(rack.step(Call::Reset)), Some(25));
 }
