@@ -1,4 +1,5 @@
 // A client of a rack that serves one interrupt by token. Nothing here can lose a token: each is handed in, or handed on with the fault.
+ghost use Rattle.std.specs.Prelude.{◌≡◌, false};
 ghost use Rattle.trials.specs.Clients.{Handed};
 
 use card::{Card, Handler};
@@ -20,6 +21,16 @@ pub fn serve_once<H: Handler, C: Card>(rack: &mut Rack<H, C>) -> Result<Option<u
         return Ok(None);
     };
     let (_, service) = rack.acknowledge(token).map_err(Stopped::Taken)?;
+    close(rack, service)
+}
+
+fn close<H: Handler, C: Card>(
+    rack: &mut Rack<H, C>,
+    service: ServiceToken,
+) -> Result<Option<u8>, Stopped>
+    requires { service.spent ≡ false }
+    ensures { Handed result }
+{
     let mask = rack.return_from(service).map_err(Stopped::Serving)?;
     Ok(Some(mask))
 }
