@@ -1,7 +1,6 @@
 -- The rack: what each call gives and leaves, by what its parts give and leave.
 use Rattle.std.specs.Prelude.{ℕ, Bool, true, false, cond, ◌&&◌, ◌||◌, Some, None, Ok, Err, Option, Result}
 use Rattle.std.specs.Result.{result_map_both}
-use Rattle.card.specs.declared.faults.CardFault.{CardFault}
 use Rattle.card.specs.declared.faults.CardFault.TheVariants.{Oversize}
 use Rattle.card.specs.declared.outcomes.Answer.{Answer}
 use Rattle.card.specs.declared.interface.Card.{Ghosts as OfCard}
@@ -35,7 +34,7 @@ pub record Parts (H C : Type 0) : Type 0 where
 abbrev pub parts : {H C : Type 0} → record { model : Model H; noticed : H → ℕ → H } → OfCard C → Parts H C
 parts h c = record { handler = h.model; noticed = h.noticed; chain = c.model }
 
--- A rack: a handler above a chain, and one processor.
+-- A rack, as contracts see it: a handler above a chain, and one processor.
 pub record State (H C : Type 0) : Type 0 where
   pub handler : H
   pub chain : C
