@@ -1,7 +1,5 @@
 -- The words of a script, and its numbers.
-use Rattle.std.specs.Prelude.{ℕ, ◌+◌, ◌-◌, ◌*◌, cond, ◌&&◌, List, [], ◌∷◌, length, Some, None, codes, Bool, Option, nat_le}
-use Rattle.std.specs.Char.{is_ascii_digit}
-use Rattle.std.specs.List.{list_all}
+use Rattle.std.specs.Prelude.{ℕ, ◌+◌, ◌-◌, ◌*◌, cond, ◌&&◌, List, [], ◌∷◌, length, Some, None, codes, Option, nat_le}
 use Rattle.std.specs.Str.{bytes_eq}
 use Rattle.script.specs.declared.words.Word.{Word}
 use Rattle.script.specs.declared.words.Word.TheVariants.{Line, Local, Put, Get, LocalPut, LocalGet, Mask, Take, Ack, Back, Reset}
@@ -23,6 +21,7 @@ abbrev pub among : List Word → List ℕ → Option Word
 among [] t = None
 among (w ∷ ws) t = cond (bytes_eq t (name w)) (Some w) (among ws t)
 
+-- all words
 abbrev pub words : List Word
 words = Line ∷ Local ∷ Put ∷ Get ∷ LocalPut ∷ LocalGet ∷ Mask ∷ Take ∷ Ack ∷ Back ∷ Reset ∷ []
 
@@ -43,10 +42,6 @@ arity Take = 0
 arity Ack = 0
 arity Back = 1
 arity Reset = 0
-
--- nothing but digits
-abbrev pub all_digits : List ℕ → Bool
-all_digits = list_all is_ascii_digit
 
 -- decimal digits, read after the number so far; the digits 0 to 9 are bytes 48 to 57
 abbrev pub read : ℕ → List ℕ → Option ℕ

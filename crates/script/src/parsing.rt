@@ -1,6 +1,8 @@
 ghost use Rattle.std.specs.Prelude.{◌≡◌, ◌==◌};
+ghost use Rattle.std.specs.Char.{is_ascii_digit};
+ghost use Rattle.std.specs.List.{list_all};
 ghost use Rattle.script.specs.Pieces.{fields};
-ghost use Rattle.script.specs.Format.{all_digits, numeral};
+ghost use Rattle.script.specs.Format.{numeral};
 ghost use Rattle.script.specs.Parse.{single, both, with, call_of, parsed};
 ghost use Rattle.rack.specs.declared.calls.Call.TheVariants.{Drive, Read, Write};
 
@@ -14,7 +16,7 @@ use std::str;
 const LONGEST_LINE: usize = 80;
 
 fn all_digits(text: &[u8]) -> bool
-    ensures { result ≡ all_digits text.now }
+    ensures { result ≡ list_all is_ascii_digit text.now }
 {
     text.iter().all(u8::is_ascii_digit)
 }

@@ -13,13 +13,10 @@ use rack::{Outcome, Reached};
 /// The most bytes that a printed line takes.
 pub(crate) const LINE_ROOM: usize = 128;
 
-/// A printed line.
+/// A printed line. It is not printed by `write!` and `Display`, since no contract of theirs says that they succeed, and a line must print.
 pub(crate) type Page = ArrayString<LINE_ROOM>;
 
 // A field: a tab and the text.
-//
-// `write!` and `Display` would print the same, but their contracts say only what a print writes that succeeds, and not that it does; the
-// print of a line can't fail.
 fn push_word(page: &mut Page, word: &str)
     requires { array_string_len page.old + 1 + length word.now ≤ 128 }
     ensures text { page.new.bytes ≡ page.old.bytes ++ 9 ∷ word.now }
@@ -41,7 +38,6 @@ fn push_number<I: Integer>(page: &mut Page, number: I)
 fn show_reached(page: &mut Page, reached: Reached)
     requires { array_string_len page.old ≤ 20 }
     ensures text { page.new.bytes ≡ after page.old.bytes (reached_fields reached) }
-    ensures bound { array_string_len page.new ≤ 127 }
     ensures grows { array_string_len page.new ≤ array_string_len page.old + 60 }
 {
     match reached {
@@ -68,7 +64,6 @@ fn show_reached(page: &mut Page, reached: Reached)
 fn show_outcome(page: &mut Page, outcome: Outcome)
     requires { array_string_len page.old ≤ 20 }
     ensures text { page.new.bytes ≡ after page.old.bytes (outcome_fields outcome) }
-    ensures bound { array_string_len page.new ≤ 127 }
     ensures grows { array_string_len page.new ≤ array_string_len page.old + 60 }
 {
     match outcome {
@@ -103,7 +98,6 @@ fn show_outcome(page: &mut Page, outcome: Outcome)
 fn show_refusal(page: &mut Page, refusal: Refusal)
     requires { array_string_len page.old ≤ 20 }
     ensures text { page.new.bytes ≡ after page.old.bytes (refusal_fields refusal) }
-    ensures bound { array_string_len page.new ≤ 127 }
     ensures grows { array_string_len page.new ≤ array_string_len page.old + 24 }
 {
     push_word(page, "refused");
