@@ -58,6 +58,7 @@ impl<R: Drop> Token<R> {
     pub(crate) fn hand_in<T, F>(self, done: Result<T, F>) -> Result<T, Refused<F, Token<R>>>
         ensures { result ≡ result_map_both (λ a. a) (with_token self) done }
     {
+        // A match, since `map` and `map_err` would each want the token.
         match done {
             Ok(value) => {
                 self.spend();

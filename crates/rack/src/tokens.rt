@@ -53,6 +53,7 @@ impl<H: Handler, C: Card> Rack<H, C> {
     fn fitting<T>(token: T) -> Result<T, Refused<RackFault, T>>
         ensures { result ≡ (if oversized (parts H.Handler C.Card) then refused (Card Oversize) token else Ok token) }
     {
+        // A match, since `map` and `map_err` would each want the token.
         match Self::fits() {
             Ok(()) => Ok(token),
             Err(fault) => Err(Refused {

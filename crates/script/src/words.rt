@@ -5,7 +5,7 @@ ghost use Rattle.script.specs.Format.{arity};
 use crate::faults::ScriptFault;
 
 /// The first field of a line.
-#[derive(Clone, Copy)]
+#[derive(Clone, Copy, PartialEq, Eq, Debug)]
 pub(crate) enum Word {
     Line,
     Local,
