@@ -101,6 +101,7 @@ impl From<CardFault> for Refusal {
     }
 }
 
+// As a script prints it. Each fault has an impl of its own: one for all of them would be an orphan, since Display is std's.
 impl fmt::Display for CardFault {
     ghost output = { λ e. Some (tabbed (refusal_fields (card_refusal e))) };
 

@@ -16,6 +16,7 @@ impl Withdrawn {
         Withdrawn { bits: 0 }
     }
 
+    // Not a From: a byte could as well be the number of one source.
     /// Those of sources 0 to 7 whose bit is set: bit s is source s.
     pub fn from_byte(sources: u8) -> Withdrawn
         ensures { result ≡ told (bit sources) 8 }
@@ -53,6 +54,7 @@ impl Withdrawn {
         }
     }
 
+    // Not a From: it is the first of the words, once cards have more sources.
     /// Sources 0 to 63 as a number: bit s is source s.
     pub fn first_word(self) -> u64
         ensures { result ≡ first_word self }

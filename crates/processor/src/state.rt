@@ -79,7 +79,7 @@ impl From<ProcessorFault> for Refusal {
     }
 }
 
-// As a script prints it.
+// As a script prints it. Each fault has an impl of its own: one for all of them would be an orphan, since Display is std's.
 impl fmt::Display for ProcessorFault {
     ghost output = { λ e. Some (tabbed (refusal_fields (processor_refusal e))) };
 

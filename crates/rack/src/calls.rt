@@ -61,6 +61,7 @@ pub enum Call {
     Reset,
 }
 
+// Not a Result: a spurious acknowledge is no fault, and has a vector of its own.
 /// Who answered an acknowledge.
 #[derive(Clone, Copy, PartialEq, Eq, Debug)]
 pub enum Reached {

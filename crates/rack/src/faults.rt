@@ -8,6 +8,7 @@ use processor::ProcessorFault;
 use std::error::Error;
 use std::fmt;
 
+// Not a Result: either is a fault.
 /// Why a rack refuses a call: the fault of a card or of the processor, carried whole.
 #[derive(Clone, Copy, PartialEq, Eq, Debug)]
 pub enum RackFault {
@@ -43,7 +44,7 @@ impl From<RackFault> for Refusal {
     }
 }
 
-// As a script prints it.
+// As a script prints it. Each fault has an impl of its own: one for all of them would be an orphan, since Display is std's.
 impl fmt::Display for RackFault {
     ghost output = { λ e. Some (tabbed (refusal_fields (rack_refusal e))) };
 

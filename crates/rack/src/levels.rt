@@ -24,6 +24,7 @@ impl<H: Handler, C: Card> Rack<H, C> {
         self.handler.asked() | self.chain.asked() & self.admitted_levels()
     }
 
+    // Not an Option: 0 is below every mask, so that a take compares it as it is.
     /// The highest level at which a local source asks, or a chain source asks and the handler admits it; 0 if there is none.
     pub fn presented_level(&self) -> u8
         ensures { result ≡ presented (parts H.Handler C.Card) self.now }

@@ -46,6 +46,7 @@ fn two_numbers(text: &[u8], top: u8) -> Result<(u8, u8), ScriptFault>
     Ok((first, second))
 }
 
+// A match, and no table of functions: the words share the three functions below, with a side each.
 fn call_of(word: Word, text: &[u8]) -> Result<Call, ScriptFault>
     ensures { result ≡ call_of word (fields text.now) }
 {

@@ -35,6 +35,7 @@ fn push_number<I: Integer>(page: &mut Page, number: I)
     push_word(page, Buffer::new().format(number));
 }
 
+// What stands on the page before is asked here and of the two functions below: a type for a page of up to 20 bytes would not outlast a field.
 fn show_reached(page: &mut Page, reached: Reached)
     requires { array_string_len page.old ≤ 20 }
     ensures text { page.new.bytes ≡ after page.old.bytes (reached_fields reached) }
