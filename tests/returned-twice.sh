@@ -11,15 +11,9 @@ for crate in crates/*; do
         [ ! -d "$crate/$part" ] || cp -r "$crate/$part" "$dir/$crate/"
     done
 done
-old='        Ok(mask) => Ok(Some(mask)),'
+old='    let mask = rack.return_from(service).map_err(Stopped::Serving)?;'
 grep -qxF "$old" crates/trials/src/clients.rt
-awk -v old="$old" '$0 == old {
-    print "        Ok(_) => match rack.return_from(service) {"
-    print "            Ok(mask) => Ok(Some(mask)),"
-    print "            Err(refused) => Err(Stopped::Serving(refused)),"
-    print "        },"
-    next
-} { print }' crates/trials/src/clients.rt >"$dir/crates/trials/src/clients.rt"
+awk -v old="$old" '{ print } $0 == old { print }' crates/trials/src/clients.rt >"$dir/crates/trials/src/clients.rt"
 if (cd "$dir/crates/trials" && rt try --test) >"$dir/log" 2>&1; then
     echo "returned twice: the compiler took it" >&2
     exit 1

@@ -14,6 +14,7 @@ pub enum Layer {
 }
 
 impl Layer {
+    // Beside Display, since a page is written without a formatter.
     /// The word that a script's output has for it.
     pub fn word(self) -> &'static str
         ensures { result.now ≡ layer_word self }

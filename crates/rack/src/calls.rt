@@ -13,6 +13,7 @@ pub enum Side {
 }
 
 impl Side {
+    // Beside Display, since a page is written without a formatter.
     /// The word that a script's output has for it.
     pub fn word(self) -> &'static str
         ensures { result.now ≡ side_word self }
