@@ -1,5 +1,6 @@
 -- The fields of a printed result as values.
 use Rattle.std.specs.Prelude.{ℕ, ◌≤◌, List, [], ◌∷◌, length, decimal}
+use Rattle.std.specs.List.{AllByRecursion}
 use Rattle.card.specs.declared.fields.Field.{Field}
 use Rattle.card.specs.declared.fields.Field.TheVariants.{Word, Number}
 use Rattle.card.specs.declared.fields.Fields.{Fields}
@@ -16,13 +17,6 @@ texts (Two a b) = field_text a ∷ field_text b ∷ []
 texts (Three a b c) = field_text a ∷ field_text b ∷ field_text c ∷ []
 texts (Four a b c d) = field_text a ∷ field_text b ∷ field_text c ∷ field_text d ∷ []
 
--- a field of up to 20 bytes: a number has no more
-abbrev pub IsShort : Field → Type 0
-IsShort (Word w) = length w.now ≤ 20
-IsShort (Number n) = Unit {0}
-
+-- each of them takes up to 20 bytes
 abbrev pub AreShort : Fields → Type 0
-AreShort (One a) = IsShort a
-AreShort (Two a b) = IsShort a × IsShort b
-AreShort (Three a b c) = IsShort a × IsShort b × IsShort c
-AreShort (Four a b c d) = IsShort a × IsShort b × IsShort c × IsShort d
+AreShort fs = AllByRecursion (λ t. length t ≤ 20) (texts fs)

@@ -58,6 +58,7 @@ pub struct Refusal {
 
 impl Refusal {
     /// The fields that a script's output has for it.
+    #[tactic(auto, using(crate::proofs::Numbers::number_short))]
     pub fn fields(self) -> Fields
         ensures texts { texts result ≡ refusal_fields self }
         ensures short { AreShort result }

@@ -96,6 +96,7 @@ pub enum Outcome {
 
 impl Reached {
     /// The fields that a script's output has for it.
+    #[tactic(auto, using(card::proofs::Numbers::number_short))]
     pub fn fields(self) -> Fields
         ensures texts { texts result ≡ reached_fields self }
         ensures short { AreShort result }
@@ -118,6 +119,7 @@ impl Reached {
 
 impl Outcome {
     /// The fields that a script's output has for it.
+    #[tactic(auto, using(card::proofs::Numbers::number_short))]
     pub fn fields(self) -> Fields
         ensures texts { texts result ≡ outcome_fields self }
         ensures short { AreShort result }

@@ -1,8 +1,8 @@
 ghost use Rattle.std.specs.Prelude.{◌≡◌, ◌+◌, ◌<◌, ◌≤◌, ◌∷◌, ◌++◌, length};
 ghost use Rattle.arrayvec.specs.ArrayString.{array_string_len};
-ghost use Rattle.card.specs.Fields.{field_text, texts, IsShort, AreShort};
+ghost use Rattle.card.specs.Fields.{field_text, texts, AreShort};
 ghost use Rattle.card.specs.Words.{after};
-ghost use Rattle.script.specs.Printing.{result_fields, printed, room};
+ghost use Rattle.script.specs.Printing.{printed, room};
 
 use crate::faults::ScriptFault;
 use arrayvec::ArrayString;
@@ -19,7 +19,7 @@ pub(crate) type Page = ArrayString<LINE_ROOM>;
 // A field: a tab and its text.
 fn push_field(page: &mut Page, field: Field)
     requires fits { array_string_len page.old + 21 ≤ 128 }
-    requires short { IsShort field }
+    requires short { length (field_text field) ≤ 20 }
     ensures text { page.new.bytes ≡ page.old.bytes ++ 9 ∷ field_text field }
     ensures bound { array_string_len page.new ≤ array_string_len page.old + 21 }
 {
