@@ -3,6 +3,8 @@ ghost use Rattle.std.specs.Iterator.{at_most, YieldsFirstRef};
 ghost use Rattle.script.specs.Pieces.{lines, fields};
 ghost use Rattle.script.specs.Parse.{field_at};
 
+use std::marker::Model;
+
 /// The lines of a text, each without the byte that ends it.
 ///
 /// It is an iterator of its own, since rattle proves no loop over `split_inclusive` in a function that is generic.
@@ -12,7 +14,7 @@ pub(crate) struct Lines<'a> {
 }
 
 impl<'a> Lines<'a> {
-    pub(crate) fn of(text: &'a [u8]) -> Lines<'a>
+    pub(crate) fn new(text: &'a [u8]) -> Lines<'a>
         ensures { result.rest.now ≡ text.now }
     {
         Lines { rest: text }
@@ -42,18 +44,42 @@ impl<'a> Iterator for Lines<'a> {
     }
 }
 
-/// How many fields there are.
-pub(crate) fn field_count(text: &[u8]) -> usize
-    ensures { result ≡ length (fields text.now) }
-{
-    text.split(|byte| *byte == b'\t').count()
+/// The fields of a line, which bytes 9 part.
+#[derive(Drop)]
+pub(crate) struct Fields<'a> {
+    line: &'a [u8],
 }
 
-/// A field by its place from 0, or nothing where there are fewer.
-pub(crate) fn field(text: &[u8], place: usize) -> &[u8]
-    ensures { result.now ≡ field_at (fields text.now) place }
-{
-    text.split(|byte| *byte == b'\t')
-        .nth(place)
-        .unwrap_or_default()
+impl<'a> Model for Fields<'a> {
+    ghost use Rattle.std.specs.Prelude.{List, ℕ};
+
+    ghost Value = { List (List ℕ) };
+
+    ghost use Rattle.script.specs.Pieces.{fields};
+
+    ghost view = { λ f. fields f.line.now };
+}
+
+impl<'a> Fields<'a> {
+    pub(crate) fn new(line: &'a [u8]) -> Fields<'a>
+        ensures { result ≡ fields line.now }
+    {
+        Fields { line }
+    }
+
+    pub(crate) fn count(&self) -> usize
+        ensures { result ≡ length self.now }
+    {
+        self.line.split(|byte| *byte == b'\t').count()
+    }
+
+    /// A field by its place from 0, or nothing where there are fewer.
+    pub(crate) fn get(&self, place: usize) -> &'a [u8]
+        ensures { result.now ≡ field_at self.now place }
+    {
+        self.line
+            .split(|byte| *byte == b'\t')
+            .nth(place)
+            .unwrap_or_default()
+    }
 }
