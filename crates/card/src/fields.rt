@@ -4,7 +4,7 @@ ghost use Rattle.card.specs.Words.{tabbed};
 
 use std::fmt;
 
-/// A field of a printed result.
+/// A field of a printed result: a word, or a number in decimal.
 #[derive(Clone, Copy, PartialEq, Eq, Debug)]
 pub enum Field {
     Word(&'static str),
@@ -22,7 +22,7 @@ impl fmt::Display for Field {
     }
 }
 
-// No slice or vector of fields: those that a result has are known where it is told, and a variant of a number of them needs no bound.
+// Not a vector of fixed capacity: with a variant for each number of fields, no call of `push` has to show that there is room.
 /// The fields of a printed result, of which there are one to four.
 #[derive(Clone, Copy, PartialEq, Eq, Debug)]
 pub enum Fields {
