@@ -5,9 +5,9 @@ ghost use Rattle.script.specs.Parse.{field_at};
 
 use std::marker::Model;
 
+// Tried: a `for` over std's `split_inclusive` in `run_lines`, which is generic. With a closure, or with the name of a function, the check makes
+// an ill-typed helper (`iterator-loop-number`), with and without `can_next` in the loop's invariant.
 /// The lines of a text, each without the byte that ends it.
-///
-/// It is an iterator of its own, since rattle proves no loop over `split_inclusive` in a function that is generic.
 #[derive(Drop)]
 pub(crate) struct Lines<'a> {
     rest: &'a [u8],

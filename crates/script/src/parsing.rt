@@ -16,7 +16,7 @@ use std::str;
 // The most bytes that a line may have.
 const LONGEST_LINE: usize = 80;
 
-// Since `parse` takes a plus sign before the digits.
+// It is asked before `parse`, which would take a plus sign before the digits.
 fn all_digits(text: &[u8]) -> bool
     ensures { result ≡ list_all is_ascii_digit text.now }
 {
