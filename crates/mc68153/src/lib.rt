@@ -183,6 +183,7 @@ impl Card for Mc68153 {
     }
 
     fn asked(&self) -> u8 {
+        // A `for`, and no twin of the folds over levels: it goes through the inputs.
         let mut levels = 0;
         for input in &self.inputs {
             if input.asks() {

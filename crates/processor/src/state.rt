@@ -15,6 +15,7 @@ pub enum State {
     Taken { level: u8, found: u8 },
 }
 
+// Calls are data, and no closures: the law over every run is about lists of them.
 /// A call of a processor.
 #[derive(Clone, Copy, PartialEq, Eq, Debug)]
 pub enum ProcessorCall {

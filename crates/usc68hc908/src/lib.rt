@@ -77,6 +77,7 @@ impl Usc68hc908 {
         self.isr & CHANNELS
     }
 
+    // No function is shared with the other chip's base: it would be this mask alone.
     fn base(&self) -> u8
         ensures value { result ≡ base_of self.now }
         ensures bound { result ≤ 248 }
