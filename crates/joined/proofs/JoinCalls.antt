@@ -70,9 +70,6 @@ FitsBehind a e = (source_named e + capped_sources a < 256) × (register_named e 
 
 -- what the rear refuses a call on its own source or register with, where the number is a byte behind the front's
 module _ {F R : Type 0} (a : Model F) (b : Model R) (y : R) (own : ℕ) {v : ⊤} (checked : Ok v ≡ unless_refused (size_first (join a b) None) tt) where
-  pub drive_named : {res : Result Driven CardFault} (w : Bool) (e : CardFault) → own + capped_sources a < 256 → res ≡ drive_result b y own w → res ≡ Err e → FitsBehind a e
-  drive_named w e h gives was = let same : e ≡ NoSource own = grind (arith, nat_tests, checked, gives, was) in rw same (h, omega arith)
-
   module _ (lb : Laws b) (h : own + capped_registers a < 256) where
     own_named : (e : CardFault) → Own own e → FitsBehind a e
     own_named Oversize h = absurd h
