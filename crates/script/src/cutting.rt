@@ -5,8 +5,9 @@ ghost use Rattle.script.specs.Parse.{field_at};
 
 use std::marker::Model;
 
-// Tried: a `for` over std's `split_inclusive` in `run_lines`, which is generic. With a closure, or with the name of a function, the check makes
-// an ill-typed helper (`iterator-loop-number`), with and without `can_next` in the loop's invariant.
+// Tried: a `for` over std's `split_inclusive` in `run_lines`, which is generic. With a closure or the name of a function, the check makes an
+// ill-typed helper (`iterator-loop-number`), also where the loop's invariant begins with `can_next`. With a function pointer, it stays open
+// that the pointer may always be called.
 /// The lines of a text, each without the byte that ends it.
 #[derive(Drop)]
 pub(crate) struct Lines<'a> {

@@ -34,8 +34,8 @@ fn numeral(digits: &[u8], top: u8) -> Option<u8>
     (value <= top).then_some(value)
 }
 
-impl<'a> Fields<'a> {
-    // The number in the field at this place, from 0. A fault counts from 1.
+impl Fields<'_> {
+    // The number in the field at this place, from 0. The place of a fault counts from 1.
     fn number(&self, place: u8, top: u8) -> Result<u8, ScriptFault>
         requires { place < 255 }
         ensures { result ≡ ok_or (numeral top (field_at self.now place)) (BadField (place + 1)) }
