@@ -23,6 +23,7 @@ impl fmt::Display for Field {
 }
 
 // Not a vector of fixed capacity: with a variant for each number of fields, no call of `push` has to show that there is room.
+// That they are short is said by each function that makes them: an enum can have no invariant.
 /// The fields of a printed result, of which there are one to four.
 #[derive(Clone, Copy, PartialEq, Eq, Debug)]
 pub enum Fields {
