@@ -1,5 +1,5 @@
 -- What a check that a call makes first shows of the call.
-use Rattle.std.proofs.Common.{◌≡◌, ℕ, ◌≤◌, true, false, cond, Some, None, Ok, Err, Option, refl, ap, arith}
+use Rattle.std.proofs.Common.{◌≡◌, ℕ, ◌≤◌, true, false, cond, Some, None, Ok, Option, refl, arith}
 use Rattle.std.proofs.lemmas.Bool.{and_parts, leb-true}
 use Rattle.std.specs.Prelude.{nat_le, Bool, ◌&&◌, ⊤}
 use Rattle.card.specs.declared.faults.CardFault.{CardFault}

@@ -4,6 +4,7 @@ ghost use Rattle.card.specs.Words.{tabbed};
 
 use std::fmt;
 
+// Not a Result: a word is printed as much as a number.
 /// A field of a printed result: a word, or a number in decimal.
 #[derive(Clone, Copy, PartialEq, Eq, Debug)]
 pub enum Field {

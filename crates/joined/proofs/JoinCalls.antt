@@ -8,13 +8,12 @@ use Rattle.std.proofs.lemmas.Bool.Decides.{nat_tests}
 use Rattle.card.specs.declared.faults.CardFault.{CardFault}
 use Rattle.card.specs.declared.faults.CardFault.TheVariants.{Oversize, NoSource, NoRegister, NoAccess, BadLevel, NoControl}
 use Rattle.card.specs.declared.outcomes.Answer.{Answer}
-use Rattle.card.specs.declared.outcomes.Driven.{Driven}
 use Rattle.card.specs.declared.withdrawn.Withdrawn.{Withdrawn}
 use Rattle.joined.specs.declared.Joined.{Joined}
 use Rattle.card.specs.Source.{Source, asking_at, any_asks, pick}
 use Rattle.card.specs.Withdrawing.{shifted, union}
 use Rattle.card.specs.Meaning.{Meaning, driving, lost}
-use Rattle.card.specs.Model.{Model, source_of, size_first, capped_sources, capped_registers, unless_refused, drive_result, read_result, withdrawn, write_result, answer_result, answer_exit, levels_asked}
+use Rattle.card.specs.Model.{Model, source_of, size_first, capped_sources, capped_registers, unless_refused, read_result, withdrawn, write_result, answer_result, answer_exit, levels_asked}
 use Rattle.card.specs.Laws.{Own, Laws}
 use Rattle.joined.specs.Joining.{source_named, register_named, joined, raised, both, pair, join}
 use Rattle.card.proofs.Picks.{chosen_by}

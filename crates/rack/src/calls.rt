@@ -36,7 +36,8 @@ impl fmt::Display for Side {
     }
 }
 
-/// A call of a rack. Calls are values, and not methods alone, since the law over every run is about lists of them.
+// Calls are data, and no closures: the law over every run is about lists of them.
+/// A call of a rack.
 #[derive(Clone, Copy, PartialEq, Eq, Debug)]
 pub enum Call {
     Drive {
@@ -150,7 +151,7 @@ impl fmt::Display for Reached {
     ghost output = { λ r. Some (tabbed (reached_fields r)) };
 
     fn fmt<W: fmt::Write>(&self, f: &mut fmt::Formatter<W>) -> fmt::Result {
-        fmt::Display::fmt(&self.fields(), f)
+        fmt::Display::fmt(&Reached::fields(*self), f)
     }
 }
 

@@ -47,11 +47,11 @@ impl<'a> Iterator for Lines<'a> {
 
 /// The fields of a line, which bytes 9 part.
 #[derive(Drop)]
-pub(crate) struct Fields<'a> {
+pub(crate) struct LineFields<'a> {
     line: &'a [u8],
 }
 
-impl<'a> Model for Fields<'a> {
+impl<'a> Model for LineFields<'a> {
     ghost use Rattle.std.specs.Prelude.{List, ℕ};
 
     ghost Value = { List (List ℕ) };
@@ -61,11 +61,11 @@ impl<'a> Model for Fields<'a> {
     ghost view = { λ f. fields f.line.now };
 }
 
-impl<'a> Fields<'a> {
-    pub(crate) fn new(line: &'a [u8]) -> Fields<'a>
+impl<'a> LineFields<'a> {
+    pub(crate) fn new(line: &'a [u8]) -> LineFields<'a>
         ensures { result ≡ fields line.now }
     {
-        Fields { line }
+        LineFields { line }
     }
 
     pub(crate) fn count(&self) -> usize

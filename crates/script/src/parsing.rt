@@ -7,7 +7,7 @@ ghost use Rattle.script.specs.Format.{numeral};
 ghost use Rattle.script.specs.Parse.{field_at, single, both, with, call_of, parsed};
 ghost use Rattle.rack.specs.declared.calls.Call.TheVariants.{Drive, Read, Write};
 
-use crate::cutting::Fields;
+use crate::cutting::LineFields;
 use crate::faults::ScriptFault;
 use crate::words::Word;
 use rack::{Call, Side};
@@ -16,7 +16,7 @@ use std::str;
 // The most bytes that a line may have.
 const LONGEST_LINE: usize = 80;
 
-// It is asked before `parse`, which would take a plus sign before the digits.
+// Asked before `parse`, which would take a plus sign before the digits.
 fn all_digits(text: &[u8]) -> bool
     ensures { result ≡ list_all is_ascii_digit text.now }
 {
@@ -34,7 +34,7 @@ fn numeral(digits: &[u8], top: u8) -> Option<u8>
     (value <= top).then_some(value)
 }
 
-impl Fields<'_> {
+impl LineFields<'_> {
     // The number in the field at this place, from 0. The place of a fault counts from 1.
     fn number(&self, place: u8, top: u8) -> Result<u8, ScriptFault>
         requires { place < 255 }
@@ -57,7 +57,7 @@ impl Fields<'_> {
 }
 
 // A match, and no table of functions: the words share the three functions below, with a side each.
-fn call_of(word: Word, fields: &Fields) -> Result<Call, ScriptFault>
+fn call_of(word: Word, fields: &LineFields) -> Result<Call, ScriptFault>
     ensures { result ≡ call_of word fields.now }
 {
     match word {
@@ -79,7 +79,7 @@ fn call_of(word: Word, fields: &Fields) -> Result<Call, ScriptFault>
     }
 }
 
-fn drive(side: Side, fields: &Fields) -> Result<Call, ScriptFault>
+fn drive(side: Side, fields: &LineFields) -> Result<Call, ScriptFault>
     ensures { result ≡ with (λ v. Drive side v.0 (v.1 == 1)) (both 1 fields.now) }
 {
     let (source, wire) = fields.two_numbers(1)?;
@@ -90,7 +90,7 @@ fn drive(side: Side, fields: &Fields) -> Result<Call, ScriptFault>
     })
 }
 
-fn write(side: Side, fields: &Fields) -> Result<Call, ScriptFault>
+fn write(side: Side, fields: &LineFields) -> Result<Call, ScriptFault>
     ensures { result ≡ with (λ v. Write side v.0 v.1) (both 255 fields.now) }
 {
     let (register, value) = fields.two_numbers(u8::MAX)?;
@@ -101,7 +101,7 @@ fn write(side: Side, fields: &Fields) -> Result<Call, ScriptFault>
     })
 }
 
-fn read(side: Side, fields: &Fields) -> Result<Call, ScriptFault>
+fn read(side: Side, fields: &LineFields) -> Result<Call, ScriptFault>
     ensures { result ≡ with (Read side) (single fields.now) }
 {
     Ok(Call::Read {
@@ -118,7 +118,7 @@ pub fn parse(text: &[u8]) -> Result<Call, ScriptFault>
     if text.len() > LONGEST_LINE {
         return Err(ScriptFault::LongLine);
     }
-    let fields = Fields::new(text);
+    let fields = LineFields::new(text);
     let word = Word::try_from(fields.get(0))?;
     if fields.count() != word.arity() + 1 {
         return Err(ScriptFault::WrongCount);

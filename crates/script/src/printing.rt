@@ -13,7 +13,7 @@ use rack::Outcome;
 /// The most bytes that a printed line takes.
 pub(crate) const LINE_ROOM: usize = 128;
 
-/// A printed line. It is not printed by `write!` and `Display`, since no contract of theirs says that they succeed, and a line must print.
+/// A printed line. It is not written by `write!` and `Display`, since no contract of theirs says that they succeed, and a line must print.
 pub(crate) type Page = ArrayString<LINE_ROOM>;
 
 // A field: a tab and its text.

@@ -1,5 +1,4 @@
-// The calls by token: those that give results of a kind of their own, `take_level`, `open_service` and `close_service`, with a token
-// handed out or handed in.
+// The calls by token. Each makes `take_level`, `open_service` or `close_service`, and hands a token out or in.
 ghost use Rattle.std.specs.Prelude.{◌≡◌, suc, length};
 ghost use Rattle.processor.specs.declared.state.ProcessorCall.TheVariants.{Take};
 ghost use Rattle.processor.specs.Steps.{gives, leaves};
@@ -68,7 +67,7 @@ impl Processor {
     {
         match self.state {
             State::Idle => ProcessorFault::NotInnermost(depth),
-            State::Taken { level, found: _ } => ProcessorFault::LevelTaken(level),
+            State::Taken { level, .. } => ProcessorFault::LevelTaken(level),
         }
     }
 }
