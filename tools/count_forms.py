@@ -41,6 +41,7 @@ SEARCHES = [
     (5, "clauses with the view of a processor", r"proc_of (?:self|result)"),
     (5, "preconditions that a processor is idle", r"requires \{ self\.old\.state ≡ Idle \}"),
     (5, "clauses on the size of a page", r"(?:requires|ensures)[^\n]*(?:size|array_string_len) (?:page|self|result)"),
+    (5, "clauses that cut a line into its fields", r"(?:requires|ensures)[^\n]*fields text\.now"),
     (6, "arrays", r"\[(?:u8|bool|0|false|Input(?:::new\(\))?); ?\w+\]"),
     (6, "counts of what a buffer holds", r"^    (?:len|open): usize,$"),
     (7, "matches on a call or a word", r"match (?:call|\(self\.state, call\)|word) \{"),

@@ -1,5 +1,6 @@
 -- What the operators do to each bit, and when a number is the byte of a test.
 use Rattle.std.proofs.Common.{◌≡◌, ℕ, zero, suc, ◌-◌, ◌*◌, ◌/◌, ◌%◌, ◌^◌, ◌<◌, ◌≤◌, Bool, true, false, cond, not, ◌&&◌, ◌||◌, T, eqb, sym, refl, ap, ◌∙◌, ap₂, inl, inr, mod-eq_of_lt, arith, lit<, eqb→eq}
+use Rattle.std.proofs.Math.Bool.{and_comm}
 use lib.Bits.{bit_and, bit_or, and_shr, or_shr, and_mod, or_mod}
 use Rattle.std.proofs.lemmas.Nat.{mod_below}
 use Rattle.std.proofs.lemmas.Bool.{cases_eq, ne_eqb}
@@ -135,15 +136,9 @@ and_both x y h = is_byte _ (λ c. bit x c && bit y c) (omega (arith, lib.Bits.an
 pub bit_zero : (c : ℕ) → c < 8 → bit 0 c ≡ false
 bit_zero c h = same_eq _ _ (at (λ c. same (bit 0 c) false) 8 tt c h)
 
-and_swap : (a b : Bool) → (a && b) ≡ (b && a)
-and_swap true true = refl
-and_swap true false = refl
-and_swap false true = refl
-and_swap false false = refl
-
 -- a mask has the bits of which p holds, which is computed
 pub mask_of : (m : ℕ) (p : ℕ → Bool) → T (every (λ c. same (bit m c) (p c)) 8) → (c : ℕ) → c < 8 → bit m c ≡ p c
 mask_of m p t c h = same_eq _ _ (at (λ c. same (bit m c) (p c)) 8 t c h)
 
 pub masked : (m : ℕ) (p : ℕ → Bool) → T (every (λ c. same (bit m c) (p c)) 8) → (x : ℕ) → x < 256 → bit_and x m ≡ only p x
-masked m p t x h = is_byte _ (λ c. p c && bit x c) (omega (arith, lib.Bits.and_le_l x m)) (λ c l. bit_of_and x m c ∙ ap (λ b. bit x c && b) (mask_of m p t c l) ∙ and_swap (bit x c) (p c))
+masked m p t x h = is_byte _ (λ c. p c && bit x c) (omega (arith, lib.Bits.and_le_l x m)) (λ c l. bit_of_and x m c ∙ ap (λ b. bit x c && b) (mask_of m p t c l) ∙ and_comm (bit x c) (p c))

@@ -1,5 +1,6 @@
 -- Each latched edge is answered, withdrawn or held still: one call, then any run.
 use Rattle.std.proofs.Common.{◌≡◌, ℕ, ◌+◌, ◌<◌, Bool, true, false, cond, not, ◌&&◌, eqb, ltb, List, [], ◌∷◌, Some, None, Option, sym, refl, ap, ◌∙◌, subst, inl, inr, arith}
+use Rattle.std.proofs.Math.Bool.{and-false}
 use Rattle.std.proofs.lemmas.Bool.{cases_lt, cases_eq, eq-eqb, ne_eqb, lt-ltb, le-ltb, both_ways}
 use Rattle.card.specs.declared.faults.CardFault.{CardFault}
 use Rattle.card.specs.declared.faults.CardFault.TheVariants.{Oversize, NoSource}
@@ -56,17 +57,13 @@ pub asking_held : (n : ℕ) (a : Source) → (a.held ≡ true → a.edge ≡ tru
 unfolding asking_at
 asking_held n a h e = asks_held (not (eqb a.level 0)) a.opened a.edge a.held a.wire (eqb a.level n) h e
 
-and_false : (b : Bool) → (b && false) ≡ false
-and_false true = refl
-and_false false = refl
-
 module _ {X : Type 0} (w : Model X) (laws : Laws w) (x : X) (s : ℕ) (within : s < w.sources) where
   pub drive_balance : (t : ℕ) (b : Bool) → holds w x s + one (eqb t s && latch (drive_result w x t b)) ≡ holds w (drive_exit w x t b) s
   drive_balance t b = go (oversize w)
     where
       fits : holds w x s + one (eqb t s && latch (unless_refused (cond (ltb t w.sources) None (Some (NoSource t))) (driving (source_of w x t) b))) ≡ holds w (changed_unless (cond (ltb t w.sources) None (Some (NoSource t))) (w.driven x t b) x) s
       fits = elim (cases_lt t w.sources) [
-        | inr past ↦ rw (le-ltb t w.sources past) (rw (and_false (eqb t s)) (omega arith))
+        | inr past ↦ rw (le-ltb t w.sources past) (rw (and-false (eqb t s)) (omega arith))
         | inl lt ↦ rw (lt-ltb t w.sources lt) (elim (cases_eq t s) [
           | inl same ↦ rw (eq-eqb t s same) (subst (λ u. holds w x s + one (is_latched (driving (source_of w x u) b)) ≡ holds w (w.driven x u b) s) (sym same)
               (drive_source (source_of w x s) b ∙ ap (λ (a : Source). one a.held) (sym (laws.drives x s b within).this)))
@@ -75,7 +72,7 @@ module _ {X : Type 0} (w : Model X) (laws : Laws w) (x : X) (s : ℕ) (within : 
       ]
 
       go : (o : Bool) → holds w x s + one (eqb t s && latch (unless_refused (cond o (Some Oversize) (cond (ltb t w.sources) None (Some (NoSource t)))) (driving (source_of w x t) b))) ≡ holds w (changed_unless (cond o (Some Oversize) (cond (ltb t w.sources) None (Some (NoSource t)))) (w.driven x t b) x) s
-      go true = rw (and_false (eqb t s)) (omega arith)
+      go true = rw (and-false (eqb t s)) (omega arith)
       go false = fits
 
   pub write_balance : (r v : ℕ) → holds w x s ≡ one (tells s (write_result w x r v)) + holds w (write_exit w x r v) s

@@ -3,3 +3,4 @@ pub mod Bitwise
 pub mod Withdrawals
 pub mod Balances
 pub mod Refusing
+pub mod Numbers

@@ -1,20 +1,15 @@
--- What a check that a call makes first shows of the call, and what is known where it refuses.
-use Rattle.std.proofs.Common.{◌≡◌, ℕ, ◌≤◌, true, false, cond, Some, None, Ok, Err, Option, refl, ap, arith}
+-- What a check that a call makes first shows of the call.
+use Rattle.std.proofs.Common.{◌≡◌, ℕ, ◌≤◌, true, false, cond, Some, None, Ok, Option, refl, arith}
 use Rattle.std.proofs.lemmas.Bool.{and_parts, leb-true}
 use Rattle.std.specs.Prelude.{nat_le, Bool, ◌&&◌, ⊤}
 use Rattle.card.specs.declared.faults.CardFault.{CardFault}
 use Rattle.card.specs.declared.faults.CardFault.TheVariants.{BadLevel}
 use Rattle.card.specs.Model.{unless_refused, level_fault}
 
--- a check that passes has no fault,
+-- a check that passes has no fault
 pub not_refused : {A : Type 0} (o : Option CardFault) (a b : A) → unless_refused o a ≡ Ok b → o ≡ None
 not_refused None a b e = refl
 not_refused (Some d) a b e = let no_way : ◌≡◌ {A = ℕ} 0 1 = cc in absurd (omega arith)
-
--- and one that refuses has the fault that it refused with
-pub refused_with : {A : Type 0} (o : Option CardFault) (a : A) (e : CardFault) → unless_refused o a ≡ Err e → o ≡ Some e
-refused_with None a e q = let no_way : ◌≡◌ {A = ℕ} 0 1 = cc in absurd (omega arith)
-refused_with (Some d) a e q = let same : d ≡ e = cc in ap Some same
 
 -- a level that passes is 1 to 7
 pub level_within : (n : ℕ) (v : ⊤) → unless_refused (level_fault n) tt ≡ Ok v → (1 ≤ n) × (n ≤ 7)

@@ -1,6 +1,7 @@
 pub mod Source
 pub mod Bits
 pub mod Words
+pub mod Fields
 pub mod Faults
 pub mod Withdrawing
 pub mod Meaning

@@ -1,7 +1,10 @@
 ghost use Rattle.std.specs.Prelude.{◌≡◌, Some};
 ghost use Rattle.card.specs.Faults.{refusal, card_refusal};
+ghost use Rattle.card.specs.Fields.{texts, AreShort};
 ghost use Rattle.card.specs.Words.{layer_word, tabbed, refusal_fields};
 
+use crate::fields::Field::{Number, Word};
+use crate::fields::Fields;
 use std::error::Error;
 use std::fmt;
 
@@ -14,6 +17,7 @@ pub enum Layer {
 }
 
 impl Layer {
+    // Beside Display, since a page is written without a formatter.
     /// The word that a script's output has for it.
     pub fn word(self) -> &'static str
         ensures { result.now ≡ layer_word self }
@@ -53,17 +57,28 @@ pub struct Refusal {
     pub place: u8,
 }
 
+impl Refusal {
+    /// The fields that a script's output has for it.
+    #[tactic(auto, using(crate::proofs::Numbers::number_short))]
+    pub fn fields(self) -> Fields
+        ensures texts { texts result ≡ refusal_fields self }
+        ensures short { AreShort result }
+    {
+        Fields::Four(
+            Word("refused"),
+            Number(self.number.into()),
+            Word(self.layer.word()),
+            Number(self.place.into()),
+        )
+    }
+}
+
 // As a script prints it.
 impl fmt::Display for Refusal {
     ghost output = { λ r. Some (tabbed (refusal_fields r)) };
 
     fn fmt<W: fmt::Write>(&self, f: &mut fmt::Formatter<W>) -> fmt::Result {
-        let Refusal {
-            number,
-            layer,
-            place,
-        } = self;
-        write!(f, "refused\t{number}\t{layer}\t{place}")
+        fmt::Display::fmt(&self.fields(), f)
     }
 }
 

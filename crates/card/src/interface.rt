@@ -13,7 +13,7 @@ use crate::withdrawn::Withdrawn;
 pub trait Card {
     ghost model: { Model Self };
 
-    // The counts are capped numbers, and no Options: sums of two can't overflow, and a card too large compares as one.
+    // The counts are capped numbers, and no Options: sums of two can't overflow, and 65 is over the limit like any count too large.
     /// How many sources the kind has, or 65 for any number above 64.
     fn source_count() -> usize
         ensures { result ≡ capped_sources model };

@@ -4,12 +4,14 @@
 
 mod calls;
 mod faults;
+mod fields;
 mod interface;
 mod outcomes;
 mod withdrawn;
 
 pub use calls::{CardCall, CardResult, perform, run};
 pub use faults::{CardFault, Layer, Refusal};
+pub use fields::{Field, Fields};
 pub use interface::{Card, Handler, check_level, check_size, is_oversize};
 pub use outcomes::{Answer, Driven, Reply};
 pub use withdrawn::Withdrawn;

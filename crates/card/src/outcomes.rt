@@ -19,6 +19,7 @@ pub enum Driven {
 }
 
 impl Driven {
+    // Beside Display, since a page is written without a formatter.
     /// The word that a script's output has for it.
     pub fn word(self) -> &'static str
         ensures { result.now ≡ drive_word self }

@@ -54,7 +54,7 @@ impl Withdrawn {
         }
     }
 
-    // Not a From: it is the first of the words, once cards have more sources.
+    // Not a From: the name says that more words may follow, for cards of more sources.
     /// Sources 0 to 63 as a number: bit s is source s.
     pub fn first_word(self) -> u64
         ensures { result ≡ first_word self }

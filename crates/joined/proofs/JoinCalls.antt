@@ -8,13 +8,12 @@ use Rattle.std.proofs.lemmas.Bool.Decides.{nat_tests}
 use Rattle.card.specs.declared.faults.CardFault.{CardFault}
 use Rattle.card.specs.declared.faults.CardFault.TheVariants.{Oversize, NoSource, NoRegister, NoAccess, BadLevel, NoControl}
 use Rattle.card.specs.declared.outcomes.Answer.{Answer}
-use Rattle.card.specs.declared.outcomes.Driven.{Driven}
 use Rattle.card.specs.declared.withdrawn.Withdrawn.{Withdrawn}
 use Rattle.joined.specs.declared.Joined.{Joined}
 use Rattle.card.specs.Source.{Source, asking_at, any_asks, pick}
 use Rattle.card.specs.Withdrawing.{shifted, union}
 use Rattle.card.specs.Meaning.{Meaning, driving, lost}
-use Rattle.card.specs.Model.{Model, source_of, size_first, capped_sources, capped_registers, unless_refused, drive_result, read_result, withdrawn, write_result, answer_result, answer_exit, levels_asked}
+use Rattle.card.specs.Model.{Model, source_of, size_first, capped_sources, capped_registers, unless_refused, read_result, withdrawn, write_result, answer_result, answer_exit, levels_asked}
 use Rattle.card.specs.Laws.{Own, Laws}
 use Rattle.joined.specs.Joining.{source_named, register_named, joined, raised, both, pair, join}
 use Rattle.card.proofs.Picks.{chosen_by}
@@ -70,9 +69,6 @@ FitsBehind a e = (source_named e + capped_sources a < 256) × (register_named e 
 
 -- what the rear refuses a call on its own source or register with, where the number is a byte behind the front's
 module _ {F R : Type 0} (a : Model F) (b : Model R) (y : R) (own : ℕ) {v : ⊤} (checked : Ok v ≡ unless_refused (size_first (join a b) None) tt) where
-  pub drive_named : {res : Result Driven CardFault} (w : Bool) (e : CardFault) → own + capped_sources a < 256 → res ≡ drive_result b y own w → res ≡ Err e → FitsBehind a e
-  drive_named w e h gives was = let same : e ≡ NoSource own = grind (arith, nat_tests, checked, gives, was) in rw same (h, omega arith)
-
   module _ (lb : Laws b) (h : own + capped_registers a < 256) where
     own_named : (e : CardFault) → Own own e → FitsBehind a e
     own_named Oversize h = absurd h

@@ -28,8 +28,8 @@ impl<F: Card, R: Card> Joined<F, R> {
         Ok(())
     }
 
-    // The fault of the rear, with its sources and registers numbered as the joined card's. So where both sides lack a source or a
-    // register, the rear's refusal, which names its own number, comes to name the joined one.
+    // The fault of the rear, with its sources and registers numbered as the joined card's. A number that neither side has is refused by the
+    // rear, and renamed here.
     fn behind(fault: CardFault) -> CardFault
         requires { (source_named fault + capped_sources F.Card.model < 256) × (register_named fault + capped_registers F.Card.model < 256) }
         ensures { result ≡ behind (capped_sources F.Card.model) (capped_registers F.Card.model) fault }

@@ -1,5 +1,6 @@
 -- The card rules, as far as seven inputs keep them whatever a chip's registers say.
 use Rattle.std.proofs.Common.{◌≡◌, ℕ, ◌+◌, ◌-◌, ◌<◌, Bool, true, false, cond, not, ◌&&◌, eqb, Some, None, sym, refl, ap, ◌∙◌, ap₂, arith}
+use Rattle.std.proofs.Math.Bool.{and-not_self}
 use Rattle.std.proofs.lemmas.Bool.{and_right, both_ways, eq-eqb, ne_eqb}
 use Rattle.card.specs.Source.{Source, asking_at, pick}
 use Rattle.card.specs.Bits.{bit}
@@ -98,13 +99,9 @@ told_lost i j l edges kept same stays = told_same (loses l edges kept) _ 7 (λ s
     lost_bit (i.edge (s + 1)) (j.edge (s + 1)) (bit l.held (s + 1)) (bit edges (s + 1)) (bit kept (s + 1)) (same (s + 1) (omega arith)) (stays (s + 1) (omega arith))
     ∙ ap (λ b. (i.edge (s + 1) && bit l.held (s + 1)) && not (j.edge (s + 1) && b)) (sym (bit_byte (λ n. (bit l.held n && bit edges n) && bit kept n) (s + 1) (omega arith))))
 
-still : (h : Bool) → (h && not h) ≡ false
-still true = refl
-still false = refl
-
 -- where the sorts stay and no edge is taken away, nothing is withdrawn
 pub none_lost : (i j : Settings) (l : Latches) → ((n : ℕ) → n < 8 → j.edge n ≡ i.edge n) → nobody ≡ told (λ s. (source_at i l s).held && not (source_at j l s).held) 7
-none_lost i j l same = told_none (λ s. (source_at i l s).held && not (source_at j l s).held) 7 (λ s h. ap (λ e. (i.edge (s + 1) && bit l.held (s + 1)) && not (e && bit l.held (s + 1))) (same (s + 1) (omega arith)) ∙ still _)
+none_lost i j l same = told_none (λ s. (source_at i l s).held && not (source_at j l s).held) 7 (λ s h. ap (λ e. (i.edge (s + 1) && bit l.held (s + 1)) && not (e && bit l.held (s + 1))) (same (s + 1) (omega arith)) ∙ and-not_self _)
 
 -- where no input is kept nothing is held
 pub keeping_none : (l : Latches) (edges : ℕ) → keeping l edges 0 ≡ latches l.wires 0

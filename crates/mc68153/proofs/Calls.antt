@@ -1,22 +1,21 @@
 -- What each call of the MC68153 gives and leaves.
 use Rattle.std.proofs.Common.{◌≡◌, ℕ, ◌-◌, ◌<◌, ◌≤◌, Bool, true, false, cond, ◌&&◌, eqb, List, [], ◌∷◌, length, get_or, set, Some, None, Ok, sym, refl, ap, ◌∙◌, subst, ap₂, inl, inr, arith, length-set, get_or-set_other, get_or-set_same}
 use lib.Bits.{bit_and}
-use Rattle.std.proofs.lemmas.Bool.{cases_eq, lt-ltb, le-ltb, eq-eqb, ne_eqb, le-leb}
+use Rattle.std.proofs.lemmas.Bool.{cases_eq, lt-ltb, le-ltb, eq-eqb, ne_eqb}
 use Rattle.card.specs.declared.outcomes.Driven.TheVariants.{Follow}
-use Rattle.card.specs.declared.outcomes.Reply.{Reply}
 use Rattle.card.specs.declared.withdrawn.Withdrawn.{Withdrawn}
 use Rattle.card.specs.Source.{asking, asking_at, pick}
 use Rattle.card.specs.Bits.{bits_of}
 use Rattle.card.specs.Withdrawing.{told, nobody}
 use Rattle.card.specs.Meaning.{driving, lost}
-use Rattle.card.specs.Model.{unless_refused, changed_unless, write_fault, drive_result, drive_exit, write_result, write_exit, answer_result, answer_exit, reset_result}
+use Rattle.card.specs.Model.{unless_refused, changed_unless, write_fault, drive_result, drive_exit, write_result, write_exit, reset_result}
 use Rattle.card.proofs.Picks.{chosen_by, none_picked}
 use Rattle.card.proofs.Withdrawals.{told_none}
 use Rattle.bits.proofs.Bytes.{by_bytes}
 use Rattle.bits.proofs.Loops.{pick_top}
 use Rattle.mc68153.specs.declared.Input.{Input}
 use Rattle.mc68153.specs.declared.Mc68153.{Mc68153}
-use Rattle.mc68153.specs.Sheet.{input, level_in, reply_of_input, input_source, table, input_at, source_at, with_input, writes, drives, serves, mc68153_model}
+use Rattle.mc68153.specs.Sheet.{input, level_in, input_source, table, input_at, source_at, with_input, writes, drives, mc68153_model}
 use Rattle.mc68153.specs.Rules.{ranks_fall}
 
 pub level_is : (c : ℕ) → c < 256 → bit_and c 7 ≡ level_in c

@@ -45,8 +45,10 @@ impl Input {
     fn reset(&mut self)
         ensures { self.new ≡ fresh_input self.old.asserted }
     {
-        self.control = 0;
-        self.vector = 15;
+        *self = Input {
+            asserted: self.asserted,
+            ..Input::new()
+        };
     }
 
     // Bits 2 to 0 of the control register.
@@ -127,7 +129,7 @@ impl Card for Mc68153 {
 
     ghost laws = { mc68153_laws };
 
-    // A rule of the project: a chip has its counts as constants, and joined cards as capped sums; so the trait asks for functions.
+    // A rule of the project: a chip has its counts as constants, joined cards have capped sums, and the trait asks for functions.
     fn source_count() -> usize {
         Self::SOURCES
     }
@@ -181,6 +183,7 @@ impl Card for Mc68153 {
     }
 
     fn asked(&self) -> u8 {
+        // A `for`, and no twin of the folds over levels: it goes through the inputs.
         let mut levels = 0;
         for input in &self.inputs {
             if input.asks() {

@@ -22,7 +22,7 @@ impl Card for PlainHandler {
 
     ghost laws = { plain_laws };
 
-    // A rule of the project: a chip has its counts as constants, and joined cards as capped sums; so the trait asks for functions.
+    // A rule of the project: a chip has its counts as constants, joined cards have capped sums, and the trait asks for functions.
     fn source_count() -> usize {
         Self::SOURCES
     }

@@ -50,6 +50,11 @@ reset_gives (m ∷ ms) = Err (ServicesOpen (length (m ∷ ms)))
 abbrev pub mask_gives : ℕ → Result Done ProcessorFault → Result Done ProcessorFault
 mask_gives m r = cond (nat_lt 7 m) (Err (BadMask m)) r
 
+-- what an idle processor gives, and one that has taken a level refuses
+abbrev pub if_idle : {A : Type 0} → State → Result A ProcessorFault → Result A ProcessorFault
+if_idle Idle r = r
+if_idle (Taken level found) r = Err (LevelTaken level)
+
 -- What a call gives: a taken level allows only an acknowledge.
 abbrev pub gives_in : State → Proc → ProcessorCall → Result Done ProcessorFault
 gives_in Idle p (Take level) = take_gives p level

@@ -6,8 +6,8 @@ use card::{Layer, Refusal};
 use std::error::Error;
 use std::fmt;
 
+// A rule of the project: `step` matches this state together with the call.
 /// What a processor is about: nothing, or a level that it has taken and not acknowledged yet.
-// Its own enum, since `step` matches it together with the call, and there `Idle` says more than `None`.
 #[derive(Clone, Copy, PartialEq, Eq, Debug)]
 pub enum State {
     Idle,
@@ -15,6 +15,7 @@ pub enum State {
     Taken { level: u8, found: u8 },
 }
 
+// Calls are data, and no closures: the law over every run is about lists of them.
 /// A call of a processor.
 #[derive(Clone, Copy, PartialEq, Eq, Debug)]
 pub enum ProcessorCall {

@@ -1,8 +1,10 @@
 ghost use Rattle.std.specs.Prelude.{◌≡◌, Some};
+ghost use Rattle.card.specs.Fields.{texts, AreShort};
 ghost use Rattle.card.specs.Words.{tabbed};
 ghost use Rattle.rack.specs.Words.{side_word, reached_fields, outcome_fields};
 
-use card::{Answer, Driven, Reply, Withdrawn};
+use card::Field::{Number, Word};
+use card::{Answer, Driven, Fields, Reply, Withdrawn};
 use std::fmt;
 
 /// A side of a rack: the handler's own sources and registers, or the chain's.
@@ -13,6 +15,7 @@ pub enum Side {
 }
 
 impl Side {
+    // Beside Display, since a page is written without a formatter.
     /// The word that a script's output has for it.
     pub fn word(self) -> &'static str
         ensures { result.now ≡ side_word self }
@@ -33,7 +36,8 @@ impl fmt::Display for Side {
     }
 }
 
-/// A call of a rack. Calls are values, and not methods alone, since the law over every run is about lists of them.
+// Calls are data, and no closures: the law over every run is about lists of them.
+/// A call of a rack.
 #[derive(Clone, Copy, PartialEq, Eq, Debug)]
 pub enum Call {
     Drive {
@@ -92,21 +96,62 @@ pub enum Outcome {
     Cleared(Withdrawn, Withdrawn),
 }
 
+impl Reached {
+    /// The fields that a script's output has for it.
+    #[tactic(auto, using(card::proofs::Numbers::number_short))]
+    pub fn fields(self) -> Fields
+        ensures texts { texts result ≡ reached_fields self }
+        ensures short { AreShort result }
+    {
+        match self {
+            Reached::At(side, answer) => {
+                let place = Word(side.word());
+                let source = Number(answer.source.into());
+                match answer.reply {
+                    Reply::Byte(vector) => {
+                        Fields::Four(Word("vector"), place, source, Number(vector.into()))
+                    }
+                    Reply::Outside => Fields::Three(Word("outside"), place, source),
+                }
+            }
+            Reached::Spurious(vector) => Fields::Two(Word("spurious"), Number(vector.into())),
+        }
+    }
+}
+
+impl Outcome {
+    /// The fields that a script's output has for it.
+    #[tactic(auto, using(card::proofs::Numbers::number_short))]
+    pub fn fields(self) -> Fields
+        ensures texts { texts result ≡ outcome_fields self }
+        ensures short { AreShort result }
+    {
+        match self {
+            Outcome::Drove(driven) => Fields::One(Word(driven.word())),
+            Outcome::Showed(value) => Fields::Two(Word("byte"), Number(value.into())),
+            Outcome::Withdrew(withdrawn) => {
+                Fields::Two(Word("drop"), Number(withdrawn.first_word()))
+            }
+            Outcome::Masked => Fields::One(Word("ok")),
+            Outcome::Took(None) => Fields::One(Word("none")),
+            Outcome::Took(Some(level)) => Fields::Two(Word("level"), Number(level.into())),
+            Outcome::Answered(reached) => reached.fields(),
+            Outcome::Returned(mask) => Fields::Two(Word("mask"), Number(mask.into())),
+            Outcome::Cleared(chain, local) => Fields::Three(
+                Word("drop"),
+                Number(chain.first_word()),
+                Number(local.first_word()),
+            ),
+        }
+    }
+}
+
 // As a script prints it: the fields parted by tabs.
 impl fmt::Display for Reached {
     ghost output = { λ r. Some (tabbed (reached_fields r)) };
 
     fn fmt<W: fmt::Write>(&self, f: &mut fmt::Formatter<W>) -> fmt::Result {
-        match *self {
-            Reached::At(side, answer) => {
-                let source = answer.source;
-                match answer.reply {
-                    Reply::Byte(vector) => write!(f, "vector\t{side}\t{source}\t{vector}"),
-                    Reply::Outside => write!(f, "outside\t{side}\t{source}"),
-                }
-            }
-            Reached::Spurious(vector) => write!(f, "spurious\t{vector}"),
-        }
+        fmt::Display::fmt(&Reached::fields(*self), f)
     }
 }
 
@@ -114,26 +159,6 @@ impl fmt::Display for Outcome {
     ghost output = { λ o. Some (tabbed (outcome_fields o)) };
 
     fn fmt<W: fmt::Write>(&self, f: &mut fmt::Formatter<W>) -> fmt::Result {
-        match *self {
-            Outcome::Drove(driven) => {
-                let word = driven.word();
-                write!(f, "{word}")
-            }
-            Outcome::Showed(value) => write!(f, "byte\t{value}"),
-            Outcome::Withdrew(withdrawn) => {
-                let bits = withdrawn.first_word();
-                write!(f, "drop\t{bits}")
-            }
-            Outcome::Masked => write!(f, "ok"),
-            Outcome::Took(None) => write!(f, "none"),
-            Outcome::Took(Some(level)) => write!(f, "level\t{level}"),
-            Outcome::Answered(reached) => fmt::Display::fmt(&reached, f),
-            Outcome::Returned(mask) => write!(f, "mask\t{mask}"),
-            Outcome::Cleared(chain, local) => {
-                let chain_bits = chain.first_word();
-                let local_bits = local.first_word();
-                write!(f, "drop\t{chain_bits}\t{local_bits}")
-            }
-        }
+        fmt::Display::fmt(&self.fields(), f)
     }
 }

@@ -55,7 +55,7 @@ impl<H: Handler, C: Card> Rack<H, C> {
         ensures after { self.new ≡ rack_leaves (parts H.Handler C.Card) self.old (Drive side source asserted) }
     {
         Self::fits()?;
-        // The sides are of two types, so a helper that picks one would take a closure for each: no plainer than a match.
+        // A match: the sides are of two types, so a helper would take a closure for each.
         match side {
             Side::Local => Ok(self.handler.drive(source, asserted)?),
             Side::Chain => Ok(self.chain.drive(source, asserted)?),
@@ -68,6 +68,7 @@ impl<H: Handler, C: Card> Rack<H, C> {
     {
         Self::fits()?;
         let lines = self.chain.asked();
+        // A match: the sides are of two types, so a helper would take a closure for each.
         match side {
             Side::Local => Ok(self.handler.read(register, lines)?),
             Side::Chain => Ok(self.chain.read(register, lines)?),
@@ -80,6 +81,7 @@ impl<H: Handler, C: Card> Rack<H, C> {
         ensures after { self.new ≡ rack_leaves (parts H.Handler C.Card) self.old (Write side register value) }
     {
         Self::fits()?;
+        // A match: the sides are of two types, so a helper would take a closure for each.
         match side {
             Side::Local => Ok(self.handler.write(register, value)?),
             Side::Chain => Ok(self.chain.write(register, value)?),

@@ -1,5 +1,5 @@
 -- The law over every run.
-use Rattle.std.proofs.Common.{◌≡◌, ℕ, List, [], ◌∷◌, ◌++◌, Some, None, Ok, Err, Option, Result, sym, refl, ap, ◌∙◌, subst, append_assoc, arith}
+use Rattle.std.proofs.Common.{◌≡◌, ℕ, List, [], ◌∷◌, Some, None, Ok, Err, Option, Result, sym, refl, ap, ◌∙◌, subst, arith}
 use Rattle.std.specs.Result.{result_map_both}
 use Rattle.card.specs.declared.faults.CardFault.{CardFault}
 use Rattle.card.specs.Model.{unless_refused, changed_unless, drive_fault, write_fault}
@@ -21,7 +21,7 @@ use Rattle.rack.specs.declared.calls.Outcome.TheVariants.{Drove, Showed, Withdre
 use Rattle.rack.specs.declared.faults.RackFault.{RackFault}
 use Rattle.rack.specs.declared.faults.RackFault.TheVariants.{Card}
 use Rattle.rack.specs.Machine.{Parts, State, start, presented, done_gives, done_leaves, fit_gives, fit_leaves, rack_gives, rack_leaves, with_handler, with_chain}
-use Rattle.runs.specs.Turns.{event_of, event, results_of}
+use Rattle.runs.specs.Turns.{event_of, event}
 use Rattle.runs.specs.Law.{AcknowledgeRight, TakeRight, RefusedWhole, RunKeeps, NoEdges}
 use Rattle.runs.proofs.Edges.{by_size, run_balance}
 use Rattle.runs.proofs.Rights.{acknowledge_right}
@@ -109,10 +109,3 @@ run_keeps p lh ln lc number h c calls none = record {
   processor = machine_keeps (rack_gives p) (rack_leaves p) (λ y. y.processor) event (λ y d. shape p y d) (start number h c) refl refl calls;
   refusals = every_turn (rack_gives p) (rack_leaves p) RefusedWhole (λ y d. refused_whole p y d) (start number h c) calls;
 }
-
--- one call more of a run that is under way
-pub results_more : {H C : Type 0} (p : Parts H C) (x y : State H C) (c : Call) (rest : List Call) (out now : List (Result Outcome RackFault)) (r : Result Outcome RackFault)
-    → r ≡ rack_gives p x c → y ≡ rack_leaves p x c → now ≡ out ++ r ∷ [] → now ++ results_of p y rest ≡ out ++ results_of p x (c ∷ rest)
-results_more p x y c rest out now r e f g =
-    ap (λ l. l ++ results_of p y rest) g ∙ append_assoc out (r ∷ []) (results_of p y rest)
-    ∙ ap (λ d. out ++ d ∷ results_of p y rest) e ∙ ap (λ z. out ++ rack_gives p x c ∷ results_of p z rest) f

@@ -49,7 +49,7 @@ impl Card for Scb68155 {
 
     ghost laws = { scb68155_laws };
 
-    // A rule of the project: a chip has its counts as constants, and joined cards as capped sums; so the trait asks for functions.
+    // A rule of the project: a chip has its counts as constants, joined cards have capped sums, and the trait asks for functions.
     fn source_count() -> usize {
         Self::SOURCES
     }

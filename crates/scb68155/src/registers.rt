@@ -105,7 +105,7 @@ impl Registers {
         }
     }
 
-    // The vector base.
+    // The vector base. No function is shared with the other chip's: it would be this mask alone.
     fn base(&self) -> u8
         ensures value { result ≡ base self.now }
         ensures bound { result ≤ 248 }

@@ -1,10 +1,16 @@
 -- How much a line prints, beside how long it is.
-use Rattle.std.proofs.Common.{◌≡◌, ℕ, suc, ◌*◌, ◌≤◌, Bool, true, false, cond, eqb, leb, ltb, List, [], ◌∷◌, length, Some, None, Ok, Err, Option, Result, refl, ap, arith}
+use Rattle.std.proofs.Common.{◌≡◌, ℕ, suc, ◌+◌, ◌*◌, ◌<◌, ◌≤◌, Bool, true, false, cond, eqb, leb, ltb, List, [], ◌∷◌, ◌++◌, length, Some, None, Ok, Err, Option, Result, refl, ap, arith}
 use Rattle.std.specs.Str.{bytes_eq}
 use Rattle.std.proofs.lemmas.Slice.Eq.{bytes_eq-Decides}
 use Rattle.std.proofs.lemmas.Bool.{and_parts, leb-true}
+use Rattle.std.proofs.lemmas.Fmt.{length-decimal-le}
+use Rattle.std.proofs.lemmas.List.{length-append}
 use Rattle.std.specs.List.{list_all, onto_first}
 use Rattle.std.specs.Option.{ok_or}
+use Rattle.card.specs.declared.faults.Layer.{Layer}
+use Rattle.card.specs.declared.faults.Layer.TheVariants.{Script, Rack, Card}
+use Rattle.card.specs.declared.faults.Refusal.{Refusal}
+use Rattle.card.specs.Words.{layer_word, after, refusal_fields}
 use Rattle.rack.specs.declared.calls.Call.{Call}
 use Rattle.rack.specs.declared.calls.Outcome.{Outcome}
 use Rattle.rack.specs.declared.faults.RackFault.{RackFault}
@@ -17,6 +23,27 @@ use Rattle.script.specs.Format.{name, among, words, spelled}
 use Rattle.script.specs.Parse.{field_at, word_of, worded, parsed}
 use Rattle.script.specs.Printing.{room}
 use Rattle.script.specs.Running.{of_rack, gives_by, line_gives}
+
+-- what fields take, each with its tab
+abbrev size : List (List ℕ) → ℕ
+size [] = 0
+size (f ∷ fs) = 1 + length f + size fs
+
+length_after : (t : List ℕ) (fs : List (List ℕ)) → length (after t fs) ≡ length t + size fs
+length_after t [] = omega arith
+length_after t (f ∷ fs) = omega (arith, length_after (t ++ 9 ∷ f) fs, length-append t (9 ∷ f))
+
+layer_short : (l : Layer) → length (layer_word l) ≤ 6
+layer_short Script = omega arith
+layer_short Rack = omega arith
+layer_short Card = omega arith
+
+-- the line of a refusal, t being its number
+pub refusal_room : (t : List ℕ) (r : Refusal) → length t ≤ 5 → r.number < 256 → r.place < 256 → length (after t (refusal_fields r) ++ 10 ∷ []) ≤ 32
+refusal_room t r few n k =
+    let number = length-decimal-le 3 r.number (omega arith) (omega (arith, n)) (omega (arith, n)) in
+    let place = length-decimal-le 3 r.place (omega arith) (omega (arith, k)) (omega (arith, k)) in
+    omega (arith, length-append (after t (refusal_fields r)) (10 ∷ []), length_after t (refusal_fields r), few, number, place, layer_short r.layer)
 
 among_long : (ws : List Word) (t : List ℕ) (w : Word) → list_all (λ v. leb 3 (length (name v))) ws ≡ true → among ws t ≡ Some w → 3 ≤ length t
 among_long [] t w long e = let no_way : ◌≡◌ {A = ℕ} 0 1 = cc in absurd (omega arith)

@@ -3,16 +3,19 @@ ghost use Rattle.std.specs.Iterator.{at_most, YieldsFirstRef};
 ghost use Rattle.script.specs.Pieces.{lines, fields};
 ghost use Rattle.script.specs.Parse.{field_at};
 
+use std::marker::Model;
+
+// Tried: a `for` over std's `split_inclusive` in `run_lines`, which is generic. With a closure or the name of a function, the check makes an
+// ill-typed helper (`iterator-loop-number`), also where the loop's invariant begins with `can_next`. With a function pointer, it stays open
+// that the pointer may always be called.
 /// The lines of a text, each without the byte that ends it.
-///
-/// It is an iterator of its own, since rattle proves no loop over `split_inclusive` in a function that is generic.
 #[derive(Drop)]
 pub(crate) struct Lines<'a> {
     rest: &'a [u8],
 }
 
 impl<'a> Lines<'a> {
-    pub(crate) fn of(text: &'a [u8]) -> Lines<'a>
+    pub(crate) fn new(text: &'a [u8]) -> Lines<'a>
         ensures { result.rest.now ≡ text.now }
     {
         Lines { rest: text }
@@ -42,18 +45,42 @@ impl<'a> Iterator for Lines<'a> {
     }
 }
 
-/// How many fields there are.
-pub(crate) fn field_count(text: &[u8]) -> usize
-    ensures { result ≡ length (fields text.now) }
-{
-    text.split(|byte| *byte == b'\t').count()
+/// The fields of a line, which bytes 9 part.
+#[derive(Drop)]
+pub(crate) struct LineFields<'a> {
+    line: &'a [u8],
 }
 
-/// A field by its place from 0, or nothing where there are fewer.
-pub(crate) fn field(text: &[u8], place: usize) -> &[u8]
-    ensures { result.now ≡ field_at (fields text.now) place }
-{
-    text.split(|byte| *byte == b'\t')
-        .nth(place)
-        .unwrap_or_default()
+impl<'a> Model for LineFields<'a> {
+    ghost use Rattle.std.specs.Prelude.{List, ℕ};
+
+    ghost Value = { List (List ℕ) };
+
+    ghost use Rattle.script.specs.Pieces.{fields};
+
+    ghost view = { λ f. fields f.line.now };
+}
+
+impl<'a> LineFields<'a> {
+    pub(crate) fn new(line: &'a [u8]) -> LineFields<'a>
+        ensures { result ≡ fields line.now }
+    {
+        LineFields { line }
+    }
+
+    pub(crate) fn count(&self) -> usize
+        ensures { result ≡ length self.now }
+    {
+        self.line.split(|byte| *byte == b'\t').count()
+    }
+
+    /// A field by its place from 0, or nothing where there are fewer.
+    pub(crate) fn get(&self, place: usize) -> &'a [u8]
+        ensures { result.now ≡ field_at self.now place }
+    {
+        self.line
+            .split(|byte| *byte == b'\t')
+            .nth(place)
+            .unwrap_or_default()
+    }
 }

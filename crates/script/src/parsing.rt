@@ -1,12 +1,13 @@
-ghost use Rattle.std.specs.Prelude.{◌≡◌, ◌==◌};
+ghost use Rattle.std.specs.Prelude.{◌≡◌, ◌==◌, ◌+◌, ◌<◌};
 ghost use Rattle.std.specs.Char.{is_ascii_digit};
 ghost use Rattle.std.specs.List.{list_all};
-ghost use Rattle.script.specs.Pieces.{fields};
+ghost use Rattle.std.specs.Option.{ok_or};
+ghost use Rattle.script.specs.declared.faults.ScriptFault.TheVariants.{BadField};
 ghost use Rattle.script.specs.Format.{numeral};
-ghost use Rattle.script.specs.Parse.{single, both, with, call_of, parsed};
+ghost use Rattle.script.specs.Parse.{field_at, single, both, with, call_of, parsed};
 ghost use Rattle.rack.specs.declared.calls.Call.TheVariants.{Drive, Read, Write};
 
-use crate::cutting::{field, field_count};
+use crate::cutting::LineFields;
 use crate::faults::ScriptFault;
 use crate::words::Word;
 use rack::{Call, Side};
@@ -15,6 +16,7 @@ use std::str;
 // The most bytes that a line may have.
 const LONGEST_LINE: usize = 80;
 
+// Asked before `parse`, which would take a plus sign before the digits.
 fn all_digits(text: &[u8]) -> bool
     ensures { result ≡ list_all is_ascii_digit text.now }
 {
@@ -22,7 +24,7 @@ fn all_digits(text: &[u8]) -> bool
 }
 
 // One to three digits, of a number up to `top`.
-fn number(digits: &[u8], top: u8) -> Option<u8>
+fn numeral(digits: &[u8], top: u8) -> Option<u8>
     ensures { result ≡ numeral top digits.now }
 {
     if digits.len() > 3 || !all_digits(digits) {
@@ -32,47 +34,55 @@ fn number(digits: &[u8], top: u8) -> Option<u8>
     (value <= top).then_some(value)
 }
 
-fn one_number(text: &[u8]) -> Result<u8, ScriptFault>
-    ensures { result ≡ single (fields text.now) }
-{
-    number(field(text, 1), u8::MAX).ok_or(ScriptFault::BadField(2))
-}
+impl LineFields<'_> {
+    // The number in the field at this place, from 0. The place of a fault counts from 1.
+    fn number(&self, place: u8, top: u8) -> Result<u8, ScriptFault>
+        requires { place < 255 }
+        ensures { result ≡ ok_or (numeral top (field_at self.now place)) (BadField (place + 1)) }
+    {
+        numeral(self.get(usize::from(place)), top).ok_or(ScriptFault::BadField(place + 1))
+    }
 
-fn two_numbers(text: &[u8], top: u8) -> Result<(u8, u8), ScriptFault>
-    ensures { result ≡ both top (fields text.now) }
-{
-    let first = one_number(text)?;
-    let second = number(field(text, 2), top).ok_or(ScriptFault::BadField(3))?;
-    Ok((first, second))
+    fn one_number(&self) -> Result<u8, ScriptFault>
+        ensures { result ≡ single self.now }
+    {
+        self.number(1, u8::MAX)
+    }
+
+    fn two_numbers(&self, top: u8) -> Result<(u8, u8), ScriptFault>
+        ensures { result ≡ both top self.now }
+    {
+        Ok((self.number(1, u8::MAX)?, self.number(2, top)?))
+    }
 }
 
 // A match, and no table of functions: the words share the three functions below, with a side each.
-fn call_of(word: Word, text: &[u8]) -> Result<Call, ScriptFault>
-    ensures { result ≡ call_of word (fields text.now) }
+fn call_of(word: Word, fields: &LineFields) -> Result<Call, ScriptFault>
+    ensures { result ≡ call_of word fields.now }
 {
     match word {
-        Word::Line => drive(Side::Chain, text),
-        Word::Local => drive(Side::Local, text),
-        Word::Put => write(Side::Chain, text),
-        Word::Get => read(Side::Chain, text),
-        Word::LocalPut => write(Side::Local, text),
-        Word::LocalGet => read(Side::Local, text),
+        Word::Line => drive(Side::Chain, fields),
+        Word::Local => drive(Side::Local, fields),
+        Word::Put => write(Side::Chain, fields),
+        Word::Get => read(Side::Chain, fields),
+        Word::LocalPut => write(Side::Local, fields),
+        Word::LocalGet => read(Side::Local, fields),
         Word::Mask => Ok(Call::Mask {
-            mask: one_number(text)?,
+            mask: fields.one_number()?,
         }),
         Word::Take => Ok(Call::Take),
         Word::Ack => Ok(Call::Acknowledge),
         Word::Back => Ok(Call::Return {
-            depth: one_number(text)?,
+            depth: fields.one_number()?,
         }),
         Word::Reset => Ok(Call::Reset),
     }
 }
 
-fn drive(side: Side, text: &[u8]) -> Result<Call, ScriptFault>
-    ensures { result ≡ with (λ v. Drive side v.0 (v.1 == 1)) (both 1 (fields text.now)) }
+fn drive(side: Side, fields: &LineFields) -> Result<Call, ScriptFault>
+    ensures { result ≡ with (λ v. Drive side v.0 (v.1 == 1)) (both 1 fields.now) }
 {
-    let (source, wire) = two_numbers(text, 1)?;
+    let (source, wire) = fields.two_numbers(1)?;
     Ok(Call::Drive {
         side,
         source,
@@ -80,10 +90,10 @@ fn drive(side: Side, text: &[u8]) -> Result<Call, ScriptFault>
     })
 }
 
-fn write(side: Side, text: &[u8]) -> Result<Call, ScriptFault>
-    ensures { result ≡ with (λ v. Write side v.0 v.1) (both 255 (fields text.now)) }
+fn write(side: Side, fields: &LineFields) -> Result<Call, ScriptFault>
+    ensures { result ≡ with (λ v. Write side v.0 v.1) (both 255 fields.now) }
 {
-    let (register, value) = two_numbers(text, 255)?;
+    let (register, value) = fields.two_numbers(u8::MAX)?;
     Ok(Call::Write {
         side,
         register,
@@ -91,12 +101,12 @@ fn write(side: Side, text: &[u8]) -> Result<Call, ScriptFault>
     })
 }
 
-fn read(side: Side, text: &[u8]) -> Result<Call, ScriptFault>
-    ensures { result ≡ with (Read side) (single (fields text.now)) }
+fn read(side: Side, fields: &LineFields) -> Result<Call, ScriptFault>
+    ensures { result ≡ with (Read side) (single fields.now) }
 {
     Ok(Call::Read {
         side,
-        register: one_number(text)?,
+        register: fields.one_number()?,
     })
 }
 
@@ -108,9 +118,10 @@ pub fn parse(text: &[u8]) -> Result<Call, ScriptFault>
     if text.len() > LONGEST_LINE {
         return Err(ScriptFault::LongLine);
     }
-    let word = Word::try_from(field(text, 0))?;
-    if field_count(text) != word.arity() + 1 {
+    let fields = LineFields::new(text);
+    let word = Word::try_from(fields.get(0))?;
+    if fields.count() != word.arity() + 1 {
         return Err(ScriptFault::WrongCount);
     }
-    call_of(word, text)
+    call_of(word, &fields)
 }

@@ -54,7 +54,7 @@ fn run_lines<H: Handler, C: Card>(
     ensures prints { OnOk result (out.new.items ≡ out.old.items ++ printed_by (parts H.Handler C.Card) rack.old 1 (lines script.now)) }
     ensures bound { OnOk result (length out.new.items ≤ length out.old.items + 32 * length script.now) }
 {
-    for (number, text) in (1u64..).zip(Lines::of(script)) {
+    for (number, text) in (1u64..).zip(Lines::new(script)) {
         let page = show(number, obey(rack, text));
         out.extend_from_slice(page.as_bytes())?;
     }

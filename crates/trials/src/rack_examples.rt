@@ -1,4 +1,5 @@
-use card::{Answer, Card, CardFault, Driven, Refusal, Reply};
+use crate::steps::refused;
+use card::{Answer, Card, CardFault, Driven, Reply};
 use joined::Joined;
 use mc68153::Mc68153;
 use plain::PlainHandler;
@@ -15,11 +16,6 @@ fn asking() -> Rack<PlainHandler, Joined<Mc68153, Mc68153>> {
     let _ = rack.write(Side::Chain, 13, 70);
     let _ = rack.drive(Side::Chain, 5, true);
     rack
-}
-
-// How a call is refused: the fault's number, if it is.
-fn refused(given: Result<Outcome, RackFault>) -> Option<u8> {
-    given.err().map(|fault| Refusal::from(fault).number)
 }
 
 // The rear's input 1 answers.

@@ -1,29 +1,24 @@
-use card::Refusal;
+use crate::steps::refused;
 use script::parse;
 use std::test::Fail;
-
-// How a line is refused: the fault's number, if it is.
-fn refused(text: &[u8]) -> Option<u8> {
-    parse(text).err().map(|fault| Refusal::from(fault).number)
-}
 
 #[test]
 fn a_line_has_80_bytes_at_most(rt: HostRuntime) {
     let long = [b'x'; 81];
-    assert_eq!(rt; refused(&long[0..80]), Some(11));
-    assert_eq!(rt; refused(&long), Some(10));
+    assert_eq!(rt; refused(parse(&long[0..80])), Some(11));
+    assert_eq!(rt; refused(parse(&long)), Some(10));
 }
 
 #[test]
 fn faults_go_by_rising_number(rt: HostRuntime) {
-    assert_eq!(rt; refused(b"line\t3\t1"), None);
-    assert_eq!(rt; refused(b"line\t003\t01"), None);
-    assert_eq!(rt; refused(b"bogus\t1\t2\t3\t4"), Some(11));
-    assert_eq!(rt; refused(b"line\tx"), Some(12));
-    assert_eq!(rt; refused(b"line\t256\t1"), Some(13));
-    assert_eq!(rt; refused(b"line\t1\t2"), Some(13));
-    assert_eq!(rt; refused(b"get\t0001"), Some(13));
-    assert_eq!(rt; refused(b"get\t\r"), Some(13));
+    assert_eq!(rt; refused(parse(b"line\t3\t1")), None);
+    assert_eq!(rt; refused(parse(b"line\t003\t01")), None);
+    assert_eq!(rt; refused(parse(b"bogus\t1\t2\t3\t4")), Some(11));
+    assert_eq!(rt; refused(parse(b"line\tx")), Some(12));
+    assert_eq!(rt; refused(parse(b"line\t256\t1")), Some(13));
+    assert_eq!(rt; refused(parse(b"line\t1\t2")), Some(13));
+    assert_eq!(rt; refused(parse(b"get\t0001")), Some(13));
+    assert_eq!(rt; refused(parse(b"get\t\r")), Some(13));
 }
 
 #[test]

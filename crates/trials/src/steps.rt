@@ -1,5 +1,7 @@
 // Calls of a card, each with what it must give.
-use card::{Answer, Card, CardCall, CardFault, CardResult, Driven, Reply, Withdrawn, perform};
+use card::{
+    Answer, Card, CardCall, CardFault, CardResult, Driven, Refusal, Reply, Withdrawn, perform,
+};
 use std::process::Abort;
 
 pub(crate) type Step = (CardCall, CardResult);
@@ -54,9 +56,14 @@ pub(crate) fn no_answer(level: u8) -> Step {
     (CardCall::Answer { level }, CardResult::Answered(Ok(None)))
 }
 
+// How a call is refused: the fault's number, if it is.
+pub(crate) fn refused<T: Drop, F: Into<Refusal>>(given: Result<T, F>) -> Option<u8> {
+    given.err().map(|fault| fault.into().number)
+}
+
 // Makes the calls in turn, each of which must give what is said.
 pub(crate) fn follow<C: Card>(rt: &impl Abort, card: &mut C, steps: &[Step]) {
     for (call, gives) in steps {
-        assert!(rt; perform(card, *call) == *gives);
+        assert_eq!(rt; perform(card, *call), *gives);
     }
 }

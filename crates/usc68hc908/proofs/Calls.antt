@@ -1,6 +1,7 @@
 -- What each call of the USC68HC908 gives and leaves.
-use Rattle.std.proofs.Common.{◌≡◌, ℕ, ◌+◌, ◌-◌, ◌<◌, ◌≤◌, Bool, true, false, cond, not, ◌&&◌, eqb, ltb, Some, None, Ok, sym, refl, ap, ◌∙◌, ap₂, inl, inr, arith}
+use Rattle.std.proofs.Common.{◌≡◌, ℕ, ◌+◌, ◌-◌, ◌<◌, ◌≤◌, Bool, true, false, cond, not, ◌&&◌, eqb, ltb, Option, Some, None, Ok, sym, refl, ap, ◌∙◌, ap₂, inl, inr, arith}
 use Rattle.std.proofs.lemmas.Bool.{cases_eq, and_right, and_from, lt-ltb, eq-eqb, ne_eqb, le-leb}
+use Rattle.std.specs.Option.{is_some}
 use Rattle.card.specs.declared.outcomes.Driven.{Driven}
 use Rattle.card.specs.declared.outcomes.Reply.TheVariants.{Byte}
 use Rattle.card.specs.declared.withdrawn.Withdrawn.{Withdrawn}
@@ -153,3 +154,12 @@ asked_some x n c pos e ch = bits_same (λ t. cond (eqb t n) true (bit 0 t)) (any
       ap (λ b. cond b true (bit 0 t)) (eq-eqb t n same) ∙ sym (any_some (sources x) t 7 (c - 1) (omega (arith, w.1)) (ap (λ d. asking_at t (input_source (settings x) x.latches d)) (sym back) ∙ chosen_asks x t c (omega arith) (same ∙ e) ch)))
   | inr other ↦ ap₂ (λ b d. cond b true d) (ne_eqb t n other) (bit_zero t l) ∙ sym (any_none (sources x) t 7 (λ s h. elsewhere x t (s + 1) (λ q. other (q ∙ sym e))))
 ])
+
+-- the bit of a level, on just if some channel asks
+pub asked_if_some : (x : Usc68hc908) (n : ℕ) (o : Option ℕ) → 0 < n → n ≡ level_of x → o ≡ chosen_channel x → put n (is_some o) 0 ≡ levels_asked usc68hc908_model x
+asked_if_some x n (Some c) pos e ch = asked_some x n c pos e ch
+asked_if_some x n None pos e ch = bits_none (λ t. cond (eqb t n) false (bit 0 t)) 8 (λ t l. off (eqb t n) (bit_zero t l)) ∙ asked_missing x ch
+  where
+    off : {b : Bool} (a : Bool) → b ≡ false → cond a false b ≡ false
+    off true h = refl
+    off false h = h

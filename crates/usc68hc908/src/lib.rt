@@ -63,6 +63,7 @@ impl Usc68hc908 {
         self.channels_in_service().count_ones()
     }
 
+    // Not an Option: wired to no level it is at level 0, as the sheet has it.
     fn level(&self) -> u8
         ensures value { result ≡ level_of self.now }
         ensures bound { result < 8 }
@@ -76,6 +77,7 @@ impl Usc68hc908 {
         self.isr & CHANNELS
     }
 
+    // No function is shared with the other chip's base: it would be this mask alone.
     fn base(&self) -> u8
         ensures value { result ≡ base_of self.now }
         ensures bound { result ≤ 248 }
@@ -116,7 +118,7 @@ impl Card for Usc68hc908 {
 
     ghost laws = { usc68hc908_laws };
 
-    // A rule of the project: a chip has its counts as constants, and joined cards as capped sums; so the trait asks for functions.
+    // A rule of the project: a chip has its counts as constants, joined cards have capped sums, and the trait asks for functions.
     fn source_count() -> usize {
         Self::SOURCES
     }
@@ -195,9 +197,6 @@ impl Card for Usc68hc908 {
         if level == 0 {
             return 0;
         }
-        match self.highest_asking() {
-            Some(_) => with(0, level, true),
-            None => 0,
-        }
+        with(0, level, self.highest_asking().is_some())
     }
 }

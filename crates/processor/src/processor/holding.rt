@@ -1,50 +1,14 @@
-// Calls by depth, each with a result of its own kind, and beside them the same calls by token. The calls by depth are unwrapped from
-// `step`, and `step` does not wrap them, since it decides on the state and the call together: so that match stands in one place.
+// The calls by token. Each makes `take_level`, `open_service` or `close_service`, and hands a token out or in.
 ghost use Rattle.std.specs.Prelude.{◌≡◌, suc, length};
-ghost use Rattle.std.specs.Result.{result_map_both};
-ghost use Rattle.processor.specs.declared.state.ProcessorCall.TheVariants.{Take, Acknowledge, Return};
-ghost use Rattle.processor.specs.declared.state.Done.TheVariants.{Took, Opened, Returned};
+ghost use Rattle.processor.specs.declared.state.ProcessorCall.TheVariants.{Take};
 ghost use Rattle.processor.specs.Steps.{gives, leaves};
 ghost use Rattle.processor.specs.Tokens.{token_take, token_acknowledge, token_acknowledge_leaves, token_return, token_return_leaves, foreign_fault};
 
 use crate::processor::Processor;
-use crate::state::{Done, ProcessorCall, ProcessorFault, State};
+use crate::state::{ProcessorFault, State};
 use crate::tokens::{OpenService, Refused, ServiceToken, TakenLevel, TakenToken, Token};
 
 impl Processor {
-    /// Takes the presented level, if it is above the mask.
-    pub fn take_level(&mut self, presented: u8) -> Result<Option<u8>, ProcessorFault>
-        ensures result { result_map_both Took (λ e. e) result ≡ gives self.old (Take presented) }
-        ensures after { self.new ≡ leaves self.old (Take presented) }
-    {
-        let Done::Took(taken) = self.step(ProcessorCall::Take { presented })? else {
-            unreachable()
-        };
-        Ok(taken)
-    }
-
-    /// Opens the service of the level taken, and gives that level.
-    pub fn open_service(&mut self) -> Result<u8, ProcessorFault>
-        ensures result { result_map_both Opened (λ e. e) result ≡ gives self.old Acknowledge }
-        ensures after { self.new ≡ leaves self.old Acknowledge }
-    {
-        let Done::Opened(level) = self.step(ProcessorCall::Acknowledge)? else {
-            unreachable()
-        };
-        Ok(level)
-    }
-
-    /// Closes the service of this number, the innermost, and gives the mask that is put back.
-    pub fn close_service(&mut self, depth: u8) -> Result<u8, ProcessorFault>
-        ensures result { result_map_both Returned (λ e. e) result ≡ gives self.old (Return depth) }
-        ensures after { self.new ≡ leaves self.old (Return depth) }
-    {
-        let Done::Returned(mask) = self.step(ProcessorCall::Return { depth })? else {
-            unreachable()
-        };
-        Ok(mask)
-    }
-
     /// Takes the presented level, if it is above the mask, and hands out the token for it.
     pub fn take(&mut self, presented: u8) -> Result<Option<TakenToken>, ProcessorFault>
         ensures result { result ≡ token_take self.old (gives self.old (Take presented)) }
@@ -103,7 +67,7 @@ impl Processor {
     {
         match self.state {
             State::Idle => ProcessorFault::NotInnermost(depth),
-            State::Taken { level, found: _ } => ProcessorFault::LevelTaken(level),
+            State::Taken { level, .. } => ProcessorFault::LevelTaken(level),
         }
     }
 }
