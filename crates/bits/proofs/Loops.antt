@@ -13,7 +13,7 @@ use Rattle.bits.proofs.Bytes.{bit_byte}
 from_start : (p : ℕ → Bool) (start n : ℕ) → ((n : ℕ) → n < start → p n ≡ false) → (ltb n start && p n) ≡ false
 from_start p start n off = elim (cases_lt n start) [ inl lt ↦ rw (lt-ltb n start lt, off n lt) | inr le ↦ ap (λ b. b && p n) (le-ltb n start le) ]
 
-gather_start : (p : ℕ → Bool) (start : ℕ) → ((n : ℕ) → n < start → p n ≡ false) → 0 ≡ byte (λ n. ltb n start && p n)
+pub gather_start : (p : ℕ → Bool) (start : ℕ) → ((n : ℕ) → n < start → p n ≡ false) → 0 ≡ byte (λ n. ltb n start && p n)
 gather_start p start off = sym (bits_none (λ n. ltb n start && p n) 8 (λ n h. from_start p start n off))
 
 gather_step : (p : ℕ → Bool) (i n : ℕ) → cond (eqb n i) (p i) (ltb n i && p n) ≡ (ltb n (i + 1) && p n)
@@ -23,11 +23,11 @@ gather_step p i n = elim (cases_order n i) [
   | inr (inr more) ↦ rw (ne_eqb n i (λ e. omega arith), le-ltb n i (omega arith), le-ltb n (i + 1) (omega arith))
 ]
 
-gather_more : (p : ℕ → Bool) (i m : ℕ) (b : Bool) → m ≡ byte (λ n. ltb n i && p n) → b ≡ p i → put i b m ≡ byte (λ n. ltb n (i + 1) && p n)
+pub gather_more : (p : ℕ → Bool) (i m : ℕ) (b : Bool) → m ≡ byte (λ n. ltb n i && p n) → b ≡ p i → put i b m ≡ byte (λ n. ltb n (i + 1) && p n)
 gather_more p i m b e f = bits_same (λ n. cond (eqb n i) b (bit m n)) (λ n. ltb n (i + 1) && p n) 8
     (λ n h. ap₂ (λ c d. cond (eqb n i) c d) f (ap (λ k. bit k n) e ∙ bit_byte (λ n. ltb n i && p n) n h) ∙ gather_step p i n)
 
-gather_done : (p : ℕ → Bool) (i m : ℕ) → 8 ≤ i → m ≡ byte (λ n. ltb n i && p n) → m ≡ byte p
+pub gather_done : (p : ℕ → Bool) (i m : ℕ) → 8 ≤ i → m ≡ byte (λ n. ltb n i && p n) → m ≡ byte p
 gather_done p i m past e = e ∙ bits_same (λ n. ltb n i && p n) p 8 (λ n h. ap (λ b. b && p n) (lt-ltb n i (omega arith)))
 
 -- a fold from bit 1 on that gathers a test, which fails at 0

@@ -67,28 +67,39 @@ asked_both a b x =
 abbrev FitsBehind : {F : Type 0} → Model F → CardFault → Type 0
 FitsBehind a e = (source_named e + capped_sources a < 256) × (register_named e + capped_registers a < 256)
 
--- what the rear refuses a call on its own source or register with, where the number is a byte behind the front's
+-- what a card itself refuses at a register names no source, and no register past that one
+pub own_named : (r : ℕ) (e : CardFault) → Own r e → (source_named e ≡ 0) × (register_named e ≤ r)
+own_named r Oversize h = absurd h
+own_named r (NoSource s) h = absurd h
+own_named r (NoRegister s) h = absurd h
+own_named r (NoAccess s) h = (refl, omega arith)
+own_named r (BadLevel n) h = absurd h
+own_named r (NoControl c) h = (refl, omega arith)
+
+-- what the rear refuses a call at its own register with; in the inner module the number is a byte behind the front's
 module _ {F R : Type 0} (a : Model F) (b : Model R) (y : R) (own : ℕ) {v : ⊤} (checked : Ok v ≡ unless_refused (size_first (join a b) None) tt) where
-  module _ (lb : Laws b) (h : own + capped_registers a < 256) where
-    own_named : (e : CardFault) → Own own e → FitsBehind a e
-    own_named Oversize h = absurd h
-    own_named (NoSource s) h = absurd h
-    own_named (NoRegister s) h = absurd h
-    own_named (NoAccess s) same = (omega arith, omega arith)
-    own_named (BadLevel n) h = absurd h
-    own_named (NoControl c) any = (omega arith, omega arith)
-
-    pub read_named : {res : Result ℕ CardFault} (l : ℕ) (e : CardFault) → res ≡ read_result b y own l → res ≡ Err e → FitsBehind a e
-    read_named l e gives was = elim (cases_lt own b.registers) [
-      | inl p ↦ own_named e ((lb.refusing y).reads own l e p (grind (arith, nat_tests, checked, gives, was, p)))
-      | inr p ↦ (let same : e ≡ NoRegister own = grind (arith, nat_tests, checked, gives, was, p) in rw same (omega arith, h))
+  module _ (lb : Laws b) where
+    pub read_within : {res : Result ℕ CardFault} (l : ℕ) (e : CardFault) → res ≡ read_result b y own l → res ≡ Err e → (source_named e ≡ 0) × (register_named e ≤ own)
+    read_within l e gives was = elim (cases_lt own b.registers) [
+      | inl p ↦ own_named own e ((lb.refusing y).reads own l e p (grind (arith, nat_tests, checked, gives, was, p)))
+      | inr p ↦ (let same : e ≡ NoRegister own = grind (arith, nat_tests, checked, gives, was, p) in rw same (refl, omega arith))
     ]
 
-    pub write_named : {res : Result Withdrawn CardFault} (z : ℕ) (e : CardFault) → res ≡ write_result b y own z → res ≡ Err e → FitsBehind a e
-    write_named z e gives was = elim (cases_lt own b.registers) [
-      | inl p ↦ own_named e ((lb.refusing y).writes own z e p (grind (arith, nat_tests, checked, gives, was, p)))
-      | inr p ↦ (let same : e ≡ NoRegister own = grind (arith, nat_tests, checked, gives, was, p) in rw same (omega arith, h))
+    pub write_within : {res : Result Withdrawn CardFault} (z : ℕ) (e : CardFault) → res ≡ write_result b y own z → res ≡ Err e → (source_named e ≡ 0) × (register_named e ≤ own)
+    write_within z e gives was = elim (cases_lt own b.registers) [
+      | inl p ↦ own_named own e ((lb.refusing y).writes own z e p (grind (arith, nat_tests, checked, gives, was, p)))
+      | inr p ↦ (let same : e ≡ NoRegister own = grind (arith, nat_tests, checked, gives, was, p) in rw same (refl, omega arith))
     ]
+
+    fits_behind : (e : CardFault) → own + capped_registers a < 256 → (source_named e ≡ 0) × (register_named e ≤ own) → FitsBehind a e
+    fits_behind e h named = (omega (arith, named.0), omega (arith, named.1, h))
+
+    module _ (h : own + capped_registers a < 256) where
+      pub read_named : {res : Result ℕ CardFault} (l : ℕ) (e : CardFault) → res ≡ read_result b y own l → res ≡ Err e → FitsBehind a e
+      read_named l e gives was = fits_behind e h (read_within l e gives was)
+
+      pub write_named : {res : Result Withdrawn CardFault} (z : ℕ) (e : CardFault) → res ≡ write_result b y own z → res ≡ Err e → FitsBehind a e
+      write_named z e gives was = fits_behind e h (write_within z e gives was)
 
 -- an answer of the rear, behind k sources
 abbrev pub answer_behind : ℕ → Option Answer → Option Answer

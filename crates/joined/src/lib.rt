@@ -28,8 +28,7 @@ impl<F: Card, R: Card> Joined<F, R> {
         Ok(())
     }
 
-    // The fault of the rear, with its sources and registers numbered as the joined card's. A number that neither side has is refused by the
-    // rear, and renamed here.
+    // The fault of the rear, with its sources and registers numbered as the joined card's.
     fn behind(fault: CardFault) -> CardFault
         requires { (source_named fault + capped_sources F.Card.model < 256) × (register_named fault + capped_registers F.Card.model < 256) }
         ensures { result ≡ behind (capped_sources F.Card.model) (capped_registers F.Card.model) fault }
@@ -61,17 +60,22 @@ impl<F: Card, R: Card> Card for Joined<F, R> {
     #[tactic(auto, using(std::proofs::lemmas::Bool::Decides::nat_tests, crate::proofs::JoinCalls::driving_raised))]
     fn drive(&mut self, source: u8, asserted: bool) -> Result<Driven, CardFault> {
         Self::check_size()?;
+        // Here, and not by the rear, which would ask its own rear in turn.
+        if usize::from(source) >= Self::source_count() {
+            return Err(CardFault::NoSource(source));
+        }
         match source.checked_sub(F::source_count() as u8) {
             None => self.front.drive(source, asserted),
-            Some(own) => self
-                .rear
-                .drive(own, asserted)
-                .map_err(|fault| Self::behind(fault)),
+            Some(own) => self.rear.drive(own, asserted),
         }
     }
 
     fn read(&self, register: u8, lines: u8) -> Result<u8, CardFault> {
         Self::check_size()?;
+        // Here, as in `drive`.
+        if usize::from(register) >= Self::register_count() {
+            return Err(CardFault::NoRegister(register));
+        }
         match register.checked_sub(F::register_count() as u8) {
             None => self.front.read(register, lines),
             Some(own) => self
@@ -84,6 +88,10 @@ impl<F: Card, R: Card> Card for Joined<F, R> {
     #[tactic(auto, using(std::proofs::lemmas::Bool::Decides::nat_tests, crate::proofs::JoinCalls::withdrawn_front, crate::proofs::JoinCalls::withdrawn_rear))]
     fn write(&mut self, register: u8, value: u8) -> Result<Withdrawn, CardFault> {
         Self::check_size()?;
+        // Here, as in `drive`.
+        if usize::from(register) >= Self::register_count() {
+            return Err(CardFault::NoRegister(register));
+        }
         match register.checked_sub(F::register_count() as u8) {
             None => self.front.write(register, value),
             Some(own) => self
