@@ -192,6 +192,7 @@ impl Card for Usc68hc908 {
         Ok(self.clear())
     }
 
+    #[tactic(auto, using(crate::proofs::Calls::asked_unwired, crate::proofs::Calls::asked_if_some))]
     fn asked(&self) -> u8 {
         let level = self.level();
         if level == 0 {
