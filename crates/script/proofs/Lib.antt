@@ -1,4 +1,3 @@
-mod Readings
 mod Cuts
 mod Lines
 mod Laws

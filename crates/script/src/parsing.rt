@@ -1,6 +1,5 @@
-ghost use Rattle.std.specs.Prelude.{◌≡◌, ◌==◌, ◌+◌, ◌<◌};
+ghost use Rattle.std.specs.Prelude.{◌≡◌, ◌==◌, ◌+◌, ◌-◌, ◌<◌, if◌then◌else◌, Some, None};
 ghost use Rattle.std.specs.Char.{is_ascii_digit};
-ghost use Rattle.std.specs.List.{list_all};
 ghost use Rattle.std.specs.Option.{ok_or};
 ghost use Rattle.script.specs.declared.faults.ScriptFault.TheVariants.{BadField};
 ghost use Rattle.script.specs.Format.{numeral};
@@ -11,27 +10,32 @@ use crate::cutting::LineFields;
 use crate::faults::ScriptFault;
 use crate::words::Word;
 use rack::{Call, Side};
-use std::str;
 
 // The most bytes that a line may have.
 const LONGEST_LINE: usize = 80;
 
-// Asked before `parse`, which would take a plus sign before the digits.
-fn all_digits(text: &[u8]) -> bool
-    ensures { result ≡ list_all is_ascii_digit text.now }
+// The value of a decimal digit.
+fn digit(byte: u8) -> Option<u16>
+    ensures { result ≡ (if is_ascii_digit byte then Some (byte - 48) else None) }
 {
-    text.iter().all(u8::is_ascii_digit)
+    match byte {
+        b'0'..=b'9' => Some(u16::from(byte - b'0')),
+        _ => None,
+    }
 }
 
 // One to three digits, of a number up to `top`.
+#[tactic(auto, unfolding(crate::specs::Format::numeral))]
 fn numeral(digits: &[u8], top: u8) -> Option<u8>
     ensures { result ≡ numeral top digits.now }
 {
-    if digits.len() > 3 || !all_digits(digits) {
-        return None;
-    }
-    let value = str::from_utf8(digits).ok()?.parse::<u8>().ok()?;
-    (value <= top).then_some(value)
+    let value = match digits {
+        [c] => digit(*c)?,
+        [b, c] => digit(*b)? * 10 + digit(*c)?,
+        [a, b, c] => digit(*a)? * 100 + digit(*b)? * 10 + digit(*c)?,
+        _ => return None,
+    };
+    u8::try_from(value).ok().filter(|value| *value <= top)
 }
 
 impl LineFields<'_> {
