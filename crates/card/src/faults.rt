@@ -73,12 +73,16 @@ impl Refusal {
     }
 }
 
-// As a script prints it.
+// As a script prints it. The first word goes out with its tab in one write, which a writer that is full in between can tell; through `Fields`
+// it would be two.
 impl fmt::Display for Refusal {
     ghost output = { λ r. Some (tabbed (refusal_fields r)) };
 
     fn fmt<W: fmt::Write>(&self, f: &mut fmt::Formatter<W>) -> fmt::Result {
-        fmt::Display::fmt(&self.fields(), f)
+        let number = self.number;
+        let layer = self.layer.word();
+        let place = self.place;
+        write!(f, "refused\t{number}\t{layer}\t{place}")
     }
 }
 
@@ -99,7 +103,16 @@ pub enum CardFault {
     NoControl(u8),
 }
 
-// The fault's number, layer and place.
+impl CardFault {
+    // Beside From, so that a caller can ask a fault by a method.
+    /// The fault's number, layer and place.
+    pub fn refusal(self) -> Refusal
+        ensures { result ≡ card_refusal self }
+    {
+        Refusal::from(self)
+    }
+}
+
 impl From<CardFault> for Refusal {
     ghost from_gives = { λ fault r. r ≡ card_refusal fault };
 

@@ -63,7 +63,16 @@ pub enum ProcessorFault {
     ServicesOpen(u8),
 }
 
-// The fault's number, layer and place.
+impl ProcessorFault {
+    // Beside From, so that a caller can ask a fault by a method.
+    /// The fault's number, layer and place.
+    pub fn refusal(self) -> Refusal
+        ensures { result ≡ processor_refusal self }
+    {
+        Refusal::from(self)
+    }
+}
+
 impl From<ProcessorFault> for Refusal {
     ghost from_gives = { λ fault r. r ≡ processor_refusal fault };
 

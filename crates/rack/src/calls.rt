@@ -146,19 +146,51 @@ impl Outcome {
     }
 }
 
-// As a script prints it: the fields parted by tabs.
+// As a script prints it: the fields parted by tabs. The first word goes out with its tab in one write, which a writer that is full in between can
+// tell; through `Fields` it would be two.
 impl fmt::Display for Reached {
     ghost output = { λ r. Some (tabbed (reached_fields r)) };
 
     fn fmt<W: fmt::Write>(&self, f: &mut fmt::Formatter<W>) -> fmt::Result {
-        fmt::Display::fmt(&Reached::fields(*self), f)
+        match *self {
+            Reached::At(side, answer) => {
+                let word = side.word();
+                let source = answer.source;
+                match answer.reply {
+                    Reply::Byte(vector) => write!(f, "vector\t{word}\t{source}\t{vector}"),
+                    Reply::Outside => write!(f, "outside\t{word}\t{source}"),
+                }
+            }
+            Reached::Spurious(vector) => write!(f, "spurious\t{vector}"),
+        }
     }
 }
 
+// By `write!`, as `Reached`.
 impl fmt::Display for Outcome {
     ghost output = { λ o. Some (tabbed (outcome_fields o)) };
 
     fn fmt<W: fmt::Write>(&self, f: &mut fmt::Formatter<W>) -> fmt::Result {
-        fmt::Display::fmt(&self.fields(), f)
+        match *self {
+            Outcome::Drove(driven) => {
+                let word = driven.word();
+                write!(f, "{word}")
+            }
+            Outcome::Showed(value) => write!(f, "byte\t{value}"),
+            Outcome::Withdrew(withdrawn) => {
+                let bits = withdrawn.first_word();
+                write!(f, "drop\t{bits}")
+            }
+            Outcome::Masked => write!(f, "ok"),
+            Outcome::Took(None) => write!(f, "none"),
+            Outcome::Took(Some(level)) => write!(f, "level\t{level}"),
+            Outcome::Answered(reached) => fmt::Display::fmt(&reached, f),
+            Outcome::Returned(mask) => write!(f, "mask\t{mask}"),
+            Outcome::Cleared(chain, local) => {
+                let chain_bits = chain.first_word();
+                let local_bits = local.first_word();
+                write!(f, "drop\t{chain_bits}\t{local_bits}")
+            }
+        }
     }
 }

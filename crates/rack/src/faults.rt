@@ -32,7 +32,16 @@ impl From<ProcessorFault> for RackFault {
     }
 }
 
-// The fault's number, layer and place.
+impl RackFault {
+    // Beside From, so that a caller can ask a fault by a method.
+    /// The fault's number, layer and place.
+    pub fn refusal(self) -> Refusal
+        ensures { result ≡ rack_refusal self }
+    {
+        Refusal::from(self)
+    }
+}
+
 impl From<RackFault> for Refusal {
     ghost from_gives = { λ fault r. r ≡ rack_refusal fault };
 

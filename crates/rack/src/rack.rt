@@ -1,9 +1,10 @@
-ghost use Rattle.std.specs.Prelude.{◌≡◌, false, if◌then◌else◌, Ok, Err};
+ghost use Rattle.std.specs.Prelude.{◌≡◌, ◌+◌, ◌≤◌, length, false, if◌then◌else◌, Ok, Err};
 ghost use Rattle.card.specs.declared.faults.CardFault.TheVariants.{Oversize};
 ghost use Rattle.card.specs.Source.{pick};
 ghost use Rattle.card.specs.Model.{source_of, oversize, reply_of, if_chosen};
 ghost use Rattle.rack.specs.declared.calls.Call.TheVariants.{Drive, Read, Write, Mask, Take, Acknowledge, Return, Reset};
 ghost use Rattle.rack.specs.declared.calls.Outcome.TheVariants.{Drove, Showed, Withdrew, Masked, Took, Answered, Returned, Cleared};
+ghost use Rattle.processor.specs.Steps.{wanted};
 ghost use Rattle.rack.specs.Machine.{parts, start, oversized, reached, answered, rack_gives, rack_leaves, outcome};
 
 use crate::calls::{Call, Outcome, Reached, Side};
@@ -47,6 +48,15 @@ impl<H: Handler, C: Card> Rack<H, C> {
             chain,
             processor: Processor::new(number),
         }
+    }
+
+    /// How many services are open: never over 16, and under 16 while a level is taken. Services are numbered from 1, so this is the number of
+    /// the innermost.
+    pub fn service_count(&self) -> u8
+        ensures count { result ≡ length self.now.processor.services }
+        ensures room { length self.now.processor.services + wanted self.now.processor.state ≤ 16 }
+    {
+        self.processor.service_count()
     }
 
     /// Drives the wire of a source of a side.

@@ -35,7 +35,16 @@ impl From<RackFault> for ScriptFault {
     }
 }
 
-// The fault's number, layer and place.
+impl ScriptFault {
+    // Beside From, so that a caller can ask a fault by a method.
+    /// The fault's number, layer and place.
+    pub fn refusal(self) -> Refusal
+        ensures { result ≡ script_refusal self }
+    {
+        Refusal::from(self)
+    }
+}
+
 impl From<ScriptFault> for Refusal {
     ghost from_gives = { λ fault r. r ≡ script_refusal fault };
 

@@ -1,5 +1,5 @@
 use crate::steps::refused;
-use card::{Answer, Card, CardFault, Driven, Reply};
+use card::{Answer, Card, CardFault, Driven, Layer, Reply};
 use joined::Joined;
 use mc68153::Mc68153;
 use plain::PlainHandler;
@@ -82,4 +82,18 @@ fn a_taken_level_allows_only_an_acknowledge(rt: HostRuntime) {
     assert_eq!(rt; refused(rack.step(Call::Acknowledge)), Some(22));
     assert_eq!(rt; refused(rack.step(Call::Return { depth: 2 })), Some(23));
     assert_eq!(rt; refused(rack.step(Call::Reset)), Some(25));
+}
+
+#[test]
+fn open_services_are_counted(rt: HostRuntime) {
+    let mut rack = asking();
+    let _ = rack.set_mask(0);
+    assert_eq!(rt; rack.service_count(), 0);
+    let _ = rack.step(Call::Take);
+    let _ = rack.step(Call::Acknowledge);
+    assert_eq!(rt; rack.service_count(), 1);
+    let refusal = rack.step(Call::Reset).err().map(|fault| fault.refusal());
+    assert_eq!(rt; refusal, Some(Layer::Rack.refusal(25, 1)));
+    assert_eq!(rt; rack.return_depth(1), Ok(0));
+    assert_eq!(rt; rack.service_count(), 0);
 }

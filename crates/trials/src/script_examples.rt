@@ -1,5 +1,7 @@
 use crate::steps::refused;
+use arrayvec::ArrayString;
 use script::parse;
+use std::fmt::Write;
 use std::test::Fail;
 
 #[test]
@@ -29,4 +31,23 @@ fn results_and_faults_display_as_they_are_printed(rt: HostRuntime) -> Result<(),
     assert!(rt; format!(in heap; "{fault}")?.as_bytes() == b"refused\t13\tscript\t3".as_slice());
     assert!(rt; format!(in heap; "{outcome}")?.as_bytes() == b"level\t4".as_slice());
     Ok(())
+}
+
+// What is left where a writer is full in between: a word goes out with its tab, in one write.
+#[test]
+fn a_word_displays_with_its_tab(rt: HostRuntime) {
+    let level = rack::Outcome::Took(Some(4));
+    let mut text: ArrayString<5> = ArrayString::new();
+    assert!(rt; write!(text, "{level}").is_err());
+    assert_eq!(rt; text.as_str(), "");
+    let spurious = rack::Reached::Spurious(24);
+    let mut text: ArrayString<8> = ArrayString::new();
+    assert!(rt; write!(text, "{spurious}").is_err());
+    assert_eq!(rt; text.as_str(), "");
+    let fault = script::ScriptFault::BadField(3);
+    assert!(rt; write!(text, "{fault}").is_err());
+    assert_eq!(rt; text.as_str(), "refused\t");
+    let mut text: ArrayString<7> = ArrayString::new();
+    assert!(rt; write!(text, "{fault}").is_err());
+    assert_eq!(rt; text.as_str(), "");
 }

@@ -1,6 +1,6 @@
-ghost use Rattle.std.specs.Prelude.{◌≡◌, Ok, Err};
+ghost use Rattle.std.specs.Prelude.{◌≡◌, ◌+◌, ◌≤◌, length, Ok, Err};
 ghost use Rattle.std.specs.Result.{result_map_both};
-ghost use Rattle.processor.specs.Steps.{fresh, if_idle, take_gives, return_gives, reset_gives, mask_gives, after, gives, leaves};
+ghost use Rattle.processor.specs.Steps.{fresh, wanted, if_idle, take_gives, return_gives, reset_gives, mask_gives, after, gives, leaves};
 ghost use Rattle.processor.specs.declared.state.Done.TheVariants.{Took, Opened, Returned, Masked, WasReset};
 ghost use Rattle.processor.specs.declared.state.ProcessorCall.TheVariants.{Take, Acknowledge, Return};
 ghost use Rattle.processor.specs.declared.state.ProcessorFault.TheVariants.{LevelTaken};
@@ -31,6 +31,14 @@ impl Processor {
             state: State::Idle,
             masks: ArrayVec::new(),
         }
+    }
+
+    /// How many services are open: never over 16, and under 16 while a level is taken.
+    pub fn service_count(&self) -> u8
+        ensures count { result ≡ length self.now.services }
+        ensures room { length self.now.services + wanted self.now.state ≤ 16 }
+    {
+        self.masks.len() as u8
     }
 
     /// Takes the presented level, if it is above the mask.
@@ -158,7 +166,7 @@ impl Processor {
         ensures after { self.new ≡ after self.old (reset_gives self.old.services) }
     {
         if !self.masks.is_empty() {
-            return Err(ProcessorFault::ServicesOpen(self.masks.len() as u8));
+            return Err(ProcessorFault::ServicesOpen(self.service_count()));
         }
         self.mask = 7;
         Ok(())

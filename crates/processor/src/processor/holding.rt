@@ -58,7 +58,7 @@ impl Processor {
     fn next_depth(&self) -> u8
         ensures { result ≡ suc (length self.now.services) }
     {
-        self.masks.len() as u8 + 1
+        self.service_count() + 1
     }
 
     // Why a foreign service token is refused.
